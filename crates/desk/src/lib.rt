@@ -1,0 +1,7 @@
+// The desk: commands performed, and answered in text.
+mod answer;
+mod console;
+mod perform;
+mod run;
+
+pub use run::Console;

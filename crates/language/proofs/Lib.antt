@@ -1,0 +1,4 @@
+pub mod Echoes
+pub mod Numbers
+pub mod Tokens
+pub mod Words
