@@ -1,6 +1,6 @@
 // The measures of the figures: the range that each kind of figure lies in, and how many there are of what goes by a number.
 ghost use mathlib.Core.Path.{_≡_};
-ghost use Rattle.measures.specs.Ranges.{inside, read-as};
+ghost use Rattle.measures.specs.Ranges.{inside, lot-size-measure, lots-measure, percentage-measure, price-measure, read-as, session-measure, theoretical-measure};
 
 // A range of figures, both ends in it.
 #[derive(Clone, Copy, Debug)]
@@ -10,6 +10,66 @@ pub struct Measure {
 }
 
 impl Measure {
+    // Strike, spot and closing price, in mils.
+    pub fn price() -> Measure
+        ensures { λ r. ⌜ r ≡ price-measure ⌝ }
+    {
+        Measure {
+            least: 1,
+            most: 100_000_000,
+        }
+    }
+
+    // A theoretical price, in mils, and so a basis.
+    pub fn theoretical() -> Measure
+        ensures { λ r. ⌜ r ≡ theoretical-measure ⌝ }
+    {
+        Measure {
+            least: 0,
+            most: 100_000_000,
+        }
+    }
+
+    // A list percentage, in hundredths of a percent.
+    pub fn percentage() -> Measure
+        ensures { λ r. ⌜ r ≡ percentage-measure ⌝ }
+    {
+        Measure {
+            least: 0,
+            most: 10_000,
+        }
+    }
+
+    // The units of one lot.
+    pub fn lot_size() -> Measure
+        ensures { λ r. ⌜ r ≡ lot-size-measure ⌝ }
+    {
+        Measure {
+            least: 1,
+            most: 1_000,
+        }
+    }
+
+    // The lots that one call moves.
+    pub fn lots() -> Measure
+        ensures { λ r. ⌜ r ≡ lots-measure ⌝ }
+    {
+        Measure {
+            least: 1,
+            most: 10_000,
+        }
+    }
+
+    // A business day, by its number.
+    pub fn session() -> Measure
+        ensures { λ r. ⌜ r ≡ session-measure ⌝ }
+    {
+        Measure {
+            least: 0,
+            most: 20_000,
+        }
+    }
+
     // Whether the figure lies in the measure.
     pub fn holds(self, figure: u32) -> bool
         ensures { λ r. ⌜ r ≡ inside self figure ⌝ }
@@ -24,42 +84,6 @@ impl Measure {
         figure.min(self.most).max(self.least)
     }
 }
-
-// Strike, spot and closing price, in mils.
-pub const PRICE: Measure = Measure {
-    least: 1,
-    most: 100_000_000,
-};
-
-// A theoretical price, in mils, and so a basis.
-pub const THEORETICAL: Measure = Measure {
-    least: 0,
-    most: 100_000_000,
-};
-
-// A list percentage, in hundredths of a percent.
-pub const PERCENTAGE: Measure = Measure {
-    least: 0,
-    most: 10_000,
-};
-
-// The units of one lot.
-pub const LOT_SIZE: Measure = Measure {
-    least: 1,
-    most: 1_000,
-};
-
-// The lots that one call moves.
-pub const LOTS: Measure = Measure {
-    least: 1,
-    most: 10_000,
-};
-
-// A business day, by its number.
-pub const SESSION: Measure = Measure {
-    least: 0,
-    most: 20_000,
-};
 
 // How many there are of each, numbered from 0.
 pub const ACCOUNTS: usize = 16;

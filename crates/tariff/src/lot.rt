@@ -1,10 +1,7 @@
 // One uncovered lot, as a tariff sees it.
 ghost use mathlib.Core.Path.{_≡_};
 ghost use Rattle.tariff.specs.Amounts.{read, times};
-use measures::LOT_SIZE;
-use measures::PERCENTAGE;
-use measures::PRICE;
-use measures::THEORETICAL;
+use measures::Measure;
 
 #[derive(Clone, Copy, Debug, PartialEq, Eq)]
 pub enum Class {
@@ -34,11 +31,11 @@ impl Lot {
     {
         Lot {
             class: self.class,
-            strike: PRICE.nearest(self.strike),
-            basis: THEORETICAL.nearest(self.basis),
-            spot: PRICE.nearest(self.spot),
-            percentage: PERCENTAGE.nearest(self.percentage),
-            size: LOT_SIZE.nearest(self.size),
+            strike: Measure::price().nearest(self.strike),
+            basis: Measure::theoretical().nearest(self.basis),
+            spot: Measure::price().nearest(self.spot),
+            percentage: Measure::percentage().nearest(self.percentage),
+            size: Measure::lot_size().nearest(self.size),
         }
     }
 }
