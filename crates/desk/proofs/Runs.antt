@@ -1,6 +1,6 @@
 -- Bytes heard one after another.
 use Prim.Native.Nat.{ℕ}
-use mathlib.Core.Path.{_≡_, sym, subst, ap, _∙_}
+use mathlib.Core.Path.{_≡_, sym, subst}
 use mathlib.Core.Bool.{Bool, _||_}
 use mathlib.Core.List.{List, [], _∷_, _++_, append-assoc}
 use Rattle.std.specs.declared.option.Option.{Option}

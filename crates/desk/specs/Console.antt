@@ -19,7 +19,7 @@ use Rattle.tariff.specs.declared.lot.Class.{Class}
 use Rattle.tariff.specs.declared.lot.Lot.{Lot}
 use Rattle.desk.specs.Answers.{answer-text, fault-of}
 use Rattle.language.specs.Language.{written}
-use Rattle.language.specs.Text.{Meant, echoed-on, printed, words}
+use Rattle.language.specs.Text.{Meant, echoed, words}
 use Rattle.desk.specs.declared.answer.Answer.{Answer}
 use Rattle.desk.specs.declared.answer.Answer.the-variants.{Value, Refused, Error}
 use Rattle.desk.specs.declared.answer.Fault.the-variants.{UnknownCommand, LineTooLong}
@@ -72,14 +72,12 @@ abbrev pub passed-over : List (List ℕ) → Bool
 passed-over [] = true
 passed-over (w ∷ ws) = eqb (getD w 0 0) 35
 
--- the words of a command, joined by single spaces
-abbrev pub echoed : List (List ℕ) → List ℕ
-echoed [] = []
-echoed (w ∷ ws) = map printed w ++ echoed-on ws
+-- the most bytes of a line that is taken apart
+abbrev pub longest-line : ℕ
+longest-line = 65_536
 
--- a line that is too long is not taken apart
 abbrev pub too-long : List ℕ → Bool
-too-long line = ltb 65_536 (length line)
+too-long line = ltb longest-line (length line)
 
 -- the answer to a line, after its echo
 abbrev pub Answered : Bool → List ℕ → Answer → List ℕ → Type 0

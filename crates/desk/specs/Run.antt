@@ -7,13 +7,13 @@ use lib.Dec.{leb}
 use lib.ListN.{length}
 use Rattle.std.specs.declared.option.Option.{Option}
 use Rattle.std.specs.declared.option.Option.the-variants.{Some, None}
-use Rattle.desk.specs.Console.{Replies}
+use Rattle.desk.specs.Console.{Replies, longest-line}
 use Rattle.desk.specs.declared.answer.Answer.{Answer}
 use Rattle.desk.specs.declared.answer.Answer.the-variants.{Value, Refused, Error}
 
 -- the line with a byte more; of a line that is too long, one byte more than the longest has is kept
 abbrev pub kept : List ℕ → ℕ → List ℕ
-kept line b = cond (leb (length line) 65_536) (line ++ (b ∷ [])) line
+kept line b = cond (leb (length line) longest-line) (line ++ (b ∷ [])) line
 
 -- the answer tells an error
 abbrev pub is-error : Option Answer → Bool

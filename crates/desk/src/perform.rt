@@ -21,6 +21,7 @@ fn figure(n: u64) -> u32
     n.min(u64::from(u32::MAX)) as u32
 }
 
+// The numbers as figures.
 fn figures(heap: Global, ns: &[u64]) -> Result<Vec<u32>, AllocError>
     ensures { λ r. ⌜ made r (λ v. vec-items v ≡ map figure-of (now (ns .entry))) ⌝ }
 {
@@ -41,6 +42,7 @@ fn dated(day: Result<u32, Refusal>) -> Answer
     }
 }
 
+// The expiry date on that market, or its refusal.
 fn expiry(market: Market, year: u32, month: u32, holidays: &[u32]) -> Answer
     ensures { λ r. ⌜ Expires market year month (now (holidays .entry)) r ⌝ }
 {
@@ -50,6 +52,7 @@ fn expiry(market: Market, year: u32, month: u32, holidays: &[u32]) -> Answer
     }
 }
 
+// The answer that is laid down for the command.
 pub fn perform(heap: Global, command: Command) -> Result<Answer, AllocError>
     ensures { λ r. ⌜ made r (λ a. Performs command a) ⌝ }
 {

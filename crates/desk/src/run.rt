@@ -24,6 +24,7 @@ pub struct Console {
     faulty: bool,
 }
 
+// Whether the byte ends a line.
 fn is_end(b: u8) -> bool
     ensures { λ r. ⌜ Decides r (b ≡ 10) ⌝ }
 {
@@ -52,16 +53,16 @@ impl Console {
         Ok(())
     }
 
-    // Answers the line.
-    fn end_line(&mut self, heap: Global, out: &mut String) -> Result<(), AllocError>
-        ensures { λ r. ⌜ made r (λ _. (o : AnyOption AnyAnswer) × (text : List ℕ) × Replies (vec-items (now (self .entry) .line)) o text × (string-bytes (now (out .exit)) ≡ string-bytes (now (out .entry)) ++ text) × (vec-items (now (self .exit) .line) ≡ []) × (now (self .exit) .faulty ≡ (now (self .entry) .faulty || is-error o))) ⌝ }
+    // Answers the line, and tells whether an error was told so far.
+    fn end_line(&mut self, heap: Global, out: &mut String) -> Result<bool, AllocError>
+        ensures { λ r. ⌜ made r (λ bad. (o : AnyOption AnyAnswer) × (text : List ℕ) × Replies (vec-items (now (self .entry) .line)) o text × (string-bytes (now (out .exit)) ≡ string-bytes (now (out .entry)) ++ text) × (vec-items (now (self .exit) .line) ≡ []) × (now (self .exit) .faulty ≡ (now (self .entry) .faulty || is-error o)) × (bad ≡ now (self .exit) .faulty)) ⌝ }
     {
         let answer = reply(heap, &self.line, out)?;
         self.line.clear();
         if let Some(Answer::Error(_)) = answer {
             self.faulty = true;
         }
-        Ok(())
+        Ok(self.faulty)
     }
 
     // Hears the next byte of the input, and answers the line where it ends it.
@@ -69,7 +70,8 @@ impl Console {
         ensures { λ r. ⌜ made r (λ _. (text : List ℕ) × (string-bytes (now (out .exit)) ≡ string-bytes (now (out .entry)) ++ text) × Hears (vec-items (now (self .entry) .line)) (now (self .entry) .faulty) (b ∷ []) (vec-items (now (self .exit) .line)) (now (self .exit) .faulty) text) ⌝ }
     {
         if is_end(b) {
-            self.end_line(heap, out)
+            self.end_line(heap, out)?;
+            Ok(())
         } else {
             self.keep(b)
         }
@@ -89,7 +91,6 @@ impl Console {
     pub fn close(mut self, heap: Global, out: &mut String) -> Result<bool, AllocError>
         ensures { λ r. ⌜ made r (λ bad. (text : List ℕ) × (string-bytes (now (out .exit)) ≡ string-bytes (now (out .entry)) ++ text) × ((input before : List ℕ) → Heard input (vec-items (self .line)) (self .faulty) before → Ran input (before ++ text) bad)) ⌝ }
     {
-        self.end_line(heap, out)?;
-        Ok(self.faulty)
+        self.end_line(heap, out)
     }
 }

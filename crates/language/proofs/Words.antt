@@ -1,21 +1,13 @@
 -- How blanks and words at the front of a text bear on its words.
-use Prim.Native.Nat.{ℕ, zero, suc, _<_, _≤_, zero-le, suc-le-suc}
+use Prim.Native.Nat.{ℕ, zero, suc, _<_, _≤_, suc-le-suc}
 use mathlib.Core.Path.{_≡_, refl, _∙_, sym, ap}
-use mathlib.Core.Bool.{Bool, true, false, cond}
+use mathlib.Core.Bool.{true, false, cond}
 use mathlib.Core.List.{List, [], _∷_, _++_}
 use native.Mathlib.Omega.{arith}
 use native.Mathlib.Nat.{le-of-suc-le-suc, add-zero}
 use lib.ListN.{length, getD, take, drop}
 use Rattle.std.proofs.shelf.Lists.{append-nil, append-assoc, length-take-le, length-drop, getD-drop}
 use Rattle.language.specs.Text.{blank, ended, split, words}
-
-not-false→true : (t : Bool) → (t ≡ false → ⊥) → t ≡ true
-not-false→true true h = refl
-not-false→true false h = absurd (h refl)
-
-not-true→false : (t : Bool) → (t ≡ true → ⊥) → t ≡ false
-not-true→false true h = absurd (h refl)
-not-true→false false h = refl
 
 -- blanks at the front make no word
 after-blanks : (bs : List ℕ) (n : ℕ) → n ≤ length bs → ((k : ℕ) → k < n → blank (getD bs k 0) ≡ true) → words bs ≡ words (drop n bs)
@@ -39,13 +31,17 @@ word-ends : (w bs : List ℕ) → 0 < length w → (0 < length bs → blank (get
 word-ends [] bs h stop = absurd (omega arith)
 word-ends (x ∷ w) [] h stop = refl
 word-ends (x ∷ w) (b ∷ bs) h stop =
-    let t : blank b ≡ true = not-false→true (blank b) (stop (omega arith)) in
+    let h : blank b ≡ false → ⊥ = stop (omega arith) in
+    let t : blank b ≡ true = grind arith in
     simp t
 
 -- where neither a blank nor a word begins, the text is at its end
 no-word : (bs : List ℕ) → (0 < length bs → blank (getD bs 0 0) ≡ true → ⊥) → (0 < length bs → blank (getD bs 0 0) ≡ false → ⊥) → words bs ≡ []
 no-word [] p q = refl
-no-word (b ∷ bs) p q = absurd (q (omega arith) (not-true→false (blank b) (p (omega arith))))
+no-word (b ∷ bs) p q =
+    let h : blank b ≡ true → ⊥ = p (omega arith) in
+    let k : blank b ≡ false → ⊥ = q (omega arith) in
+    absurd (grind arith)
 
 -- m blanks, then n bytes of a word, then a blank or the end
 module _ (bs mid word rest : List ℕ) (m n : ℕ)

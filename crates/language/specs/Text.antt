@@ -76,7 +76,11 @@ Meant (w ∷ ws) (t ∷ ts) = Means w t × Meant ws ts
 abbrev pub printed : ℕ → ℕ
 printed b = cond (ltb b 127) b 63
 
--- the words of a command, joined by single spaces: those after the first, and all
+-- the words of a command, joined by single spaces: those after the first, and all of them
 abbrev pub echoed-on : List (List ℕ) → List ℕ
 echoed-on [] = []
 echoed-on (w ∷ ws) = 32 ∷ map printed w ++ echoed-on ws
+
+abbrev pub echoed : List (List ℕ) → List ℕ
+echoed [] = []
+echoed (w ∷ ws) = map printed w ++ echoed-on ws

@@ -1,8 +1,4 @@
 // What a word of a line is: a number, a word of the language, or neither.
-ghost use Prim.Native.Nat.{_<_};
-ghost use mathlib.Core.Path.{_≡_};
-ghost use mathlib.Core.Bool.{true};
-ghost use lib.ListN.{length};
 ghost use Rattle.std.specs.Orderings.{Decides};
 ghost use Rattle.language.specs.Text.{Means, Numeral};
 use crate::word::Verb;
@@ -31,6 +27,7 @@ fn is_numeral(text: &[u8]) -> bool
 }
 
 impl Token {
+    // What the word means.
     pub fn read(text: &[u8]) -> Token
         ensures { λ r. ⌜ Means (now (text .entry)) r ⌝ }
     {

@@ -1,5 +1,5 @@
 -- A measure is the range that a kind of figure lies in, both ends in it.
-use Prim.Native.Nat.{ℕ, min, max}
+use Prim.Native.Nat.{ℕ, _^_, min, max}
 use mathlib.Core.Bool.{Bool, _&&_}
 use lib.Dec.{leb}
 use Rattle.measures.specs.declared.measure.Measure.{Measure}
@@ -37,3 +37,29 @@ lots-measure = range 1 10_000
 -- a business day, by its number
 abbrev pub session-measure : Measure
 session-measure = range 0 20_000
+
+-- how many there are of each, numbered from 0
+abbrev pub account-count : ℕ
+account-count = 16
+
+abbrev pub underlying-count : ℕ
+underlying-count = 8
+
+abbrev pub series-count : ℕ
+series-count = 32
+
+abbrev pub strategy-count : ℕ
+strategy-count = 64
+
+abbrev pub instruction-count : ℕ
+instruction-count = 32
+
+-- what a side of a row in lots, an account's cash in mils, and its units of an underlying come to at most
+abbrev pub row-ceiling : ℕ
+row-ceiling = 10_000
+
+abbrev pub cash-ceiling : ℕ
+cash-ceiling = 10 ^ 15
+
+abbrev pub units-ceiling : ℕ
+units-ceiling = 10 ^ 9

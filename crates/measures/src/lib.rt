@@ -11,5 +11,6 @@ pub use measure::SERIES;
 pub use measure::STRATEGIES;
 pub use measure::UNDERLYINGS;
 pub use measure::UNITS_CEILING;
+pub use measure::named_figures;
 pub use refusal::Refusal;
 pub use refusal::RefusalDisplay;

@@ -1,6 +1,6 @@
 // The measures of the figures: the range that each kind of figure lies in, and how many there are of what goes by a number.
 ghost use mathlib.Core.Path.{_≡_};
-ghost use Rattle.measures.specs.Ranges.{inside, lot-size-measure, lots-measure, percentage-measure, price-measure, read-as, session-measure, theoretical-measure};
+ghost use Rattle.measures.specs.Ranges.{account-count, cash-ceiling, inside, instruction-count, lot-size-measure, lots-measure, percentage-measure, price-measure, read-as, row-ceiling, series-count, session-measure, strategy-count, theoretical-measure, underlying-count, units-ceiling};
 
 // A range of figures, both ends in it.
 #[derive(Clone, Copy, Debug)]
@@ -102,3 +102,15 @@ pub const ROW_CEILING: u32 = 10_000;
 pub const CASH_CEILING: u64 = 1_000_000_000_000_000;
 
 pub const UNITS_CEILING: u64 = 1_000_000_000;
+
+// These counts and ceilings are those of the rules: that is all it says.
+pub fn named_figures()
+    ensures accounts { λ _. do ⌜ (← ⟦ACCOUNTS⟧ .exit) ≡ account-count ⌝ }
+    ensures underlyings { λ _. do ⌜ (← ⟦UNDERLYINGS⟧ .exit) ≡ underlying-count ⌝ }
+    ensures series { λ _. do ⌜ (← ⟦SERIES⟧ .exit) ≡ series-count ⌝ }
+    ensures strategies { λ _. do ⌜ (← ⟦STRATEGIES⟧ .exit) ≡ strategy-count ⌝ }
+    ensures instructions { λ _. do ⌜ (← ⟦INSTRUCTIONS⟧ .exit) ≡ instruction-count ⌝ }
+    ensures row { λ _. do ⌜ (← ⟦ROW_CEILING⟧ .exit) ≡ row-ceiling ⌝ }
+    ensures cash { λ _. do ⌜ (← ⟦CASH_CEILING⟧ .exit) ≡ cash-ceiling ⌝ }
+    ensures units { λ _. do ⌜ (← ⟦UNITS_CEILING⟧ .exit) ≡ units-ceiling ⌝ }
+{}

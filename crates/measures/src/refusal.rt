@@ -1,5 +1,4 @@
 // The causes for which a call is turned down.
-ghost use Prim.Native.Nat.{_≤_};
 ghost use mathlib.Core.Path.{_≡_};
 ghost use Rattle.std.specs.declared.option.Option.the-variants.{Some};
 ghost use Rattle.measures.specs.Refusals.{number-of, told, words-of};

@@ -1,6 +1,6 @@
 -- How large the amounts can be, and that a lot within its measures is read as it is.
-use Prim.Native.Nat.{_+_, _*_, _≤_}
-use mathlib.Core.Path.{_≡_}
+use Prim.Native.Nat.{ℕ, _+_, _*_, _≤_}
+use mathlib.Core.Path.{_≡_, ap, sym}
 use native.Mathlib.Omega.{arith}
 use Rattle.std.proofs.shelf.Bits.{mul-le}
 use Rattle.std.proofs.shelf.Ways.{tells}
@@ -37,7 +37,7 @@ module _ (lot : Lot) (m : Measured lot) where
   pub bounded-1996 : rule-1996 lot ≤ most
   bounded-1996 = omega (arith, double-bounded, strike-bounded)
 
-pub read-again : (lot : Lot) → read (read lot) ≡ read lot
+read-again : (lot : Lot) → read (read lot) ≡ read lot
 read-again lot =
     cc (
       read-as-again price-measure (lot .strike) (omega arith),
@@ -46,3 +46,7 @@ read-again lot =
       read-as-again percentage-measure (lot .percentage) (omega arith),
       read-as-again lot-size-measure (lot .size) (omega arith),
     )
+
+-- a lot that is read once more has the amount that it had
+pub read-once : (rule : Lot → ℕ) (lot : Lot) → rule (read lot) ≡ rule (read (read lot))
+read-once rule lot = ap rule (sym (read-again lot))

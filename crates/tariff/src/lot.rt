@@ -38,9 +38,7 @@ impl Lot {
             size: Measure::lot_size().nearest(self.size),
         }
     }
-}
 
-impl Lot {
     // How many times the list percentage is added under the tariff of 2017: twice where the spot lies more than
     // five per cent above the strike of a call, or below that of a put, else three times.
     pub fn times(self) -> u64

@@ -1,5 +1,4 @@
 use mathlib.Core.Path.{ap, _∙_}
-use mathlib.Core.List.{map}
 use native.Mathlib.Omega.{arith}
 use borrow.Author.Needs.{needs}
 use lib.ListN.{length, getD}

@@ -1,5 +1,5 @@
 use mathlib.Core.Path.{_≡_}
-use mathlib.Core.List.{_++_, map}
+use mathlib.Core.List.{map}
 use lib.ListN.{take}
 use Rattle.std.specs.Of.Vec.{vec-items}
 use Rattle.language.specs.declared.token.Token.the-variants.{Number}

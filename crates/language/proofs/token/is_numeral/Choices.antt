@@ -1,5 +1,4 @@
 use mathlib.Core.Path.{_≡_}
-use mathlib.Core.Bool.{true}
 use lib.ListN.{drop}
 use Rattle.std.specs.shelf.Text.{allDigits}
 use Rattle.language.proofs.token.is_numeral.Given as given

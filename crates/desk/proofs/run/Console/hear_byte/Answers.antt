@@ -6,10 +6,10 @@ use Rattle.std.proofs.shelf.Ways.{not-from-decides}
 use Rattle.desk.proofs.Runs.{on-byte, on-end}
 use Rattle.desk.proofs.run.Console.hear_byte.Needs as need
 
-pub returns-then-is-end : need.returns-then-is-end
-returns-then-is-end c =
-    let end = c .is-end .ensures .0 (c .if-is-end .taken) in
-    made-weaker (c .end-line .result) _ _ (λ _ p. (p .1, p .3, on-end (p .0) (p .1) end (p .2) (p .4) (p .5))) (c .end-line .ensures)
+pub returns-in-Continue-end-line : need.returns-in-Continue-end-line
+returns-in-Continue-end-line c =
+    let p = c .in-Continue-end-line .ensures tt in
+    (p .1, p .3, on-end (p .0) (p .1) (c .is-end .ensures .0 (c .if-is-end .taken)) (p .2) (p .4) (p .5))
 
 pub returns-else-is-end : need.returns-else-is-end
 returns-else-is-end c =
