@@ -3,10 +3,11 @@ use Prim.Native.Nat.{ℕ}
 use mathlib.Core.Bool.{Bool, true, false, cond}
 use mathlib.Core.List.{List, [], _∷_, _++_}
 use lib.Chars.{codes}
+use Rattle.std.specs.Joined.{joined}
 use Rattle.std.specs.Written.{decimal}
 use Rattle.measures.specs.Refusals.{told}
 use Rattle.desk.specs.declared.answer.Answer.{Answer}
-use Rattle.desk.specs.declared.answer.Answer.the-variants.{Value, Refused, Error}
+use Rattle.desk.specs.declared.answer.Answer.the-variants.{Done, Value, Awards, Refused, Error}
 use Rattle.desk.specs.declared.answer.Fault.{Fault}
 use Rattle.desk.specs.declared.answer.Fault.the-variants.{UnknownCommand, Usage, NumberTooLarge, LineTooLong}
 use Rattle.language.specs.declared.token.Token.{Token}
@@ -20,8 +21,14 @@ fault-text (Usage verb) = usage verb
 fault-text NumberTooLarge = codes "number above 18446744073709551615"
 fault-text LineTooLong = codes "line longer than 65536 bytes"
 
+-- each figure after a space
+abbrev pub figures-text : List ℕ → List ℕ
+figures-text ns = joined (λ n. 32 ∷ decimal n) ns
+
 abbrev pub answer-text : Answer → List ℕ
+answer-text Done = codes "ok"
 answer-text (Value n) = codes "ok " ++ decimal n
+answer-text (Awards awards) = codes "ok" ++ figures-text awards
 answer-text (Refused why) = codes "refused " ++ told why
 answer-text (Error fault) = codes "error " ++ fault-text fault
 

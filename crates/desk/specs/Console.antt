@@ -4,8 +4,8 @@ use mathlib.Core.Path.{_≡_}
 use mathlib.Core.Bool.{Bool, true, false}
 use mathlib.Core.Logic.{_⊎_}
 use lib.Chars.{codes}
-use lib.Dec.{eqb, ltb}
-use lib.ListN.{length, getD}
+use lib.Dec.{eqb, leb, ltb}
+use lib.ListN.{length, getD, replicate}
 use mathlib.Core.List.{List, [], _∷_, _++_, map}
 use Rattle.std.specs.Of.Vec.{vec-items}
 use Rattle.std.specs.declared.option.Option.{Option}
@@ -15,20 +15,29 @@ use Rattle.std.specs.declared.result.Result.the-variants.{Ok, Err}
 use Rattle.measures.specs.declared.refusal.Refusal.{Refusal}
 use Rattle.calendar.specs.Expiry.{Tells, Share-date, Bond-date}
 use Rattle.tariff.specs.Amounts.{amount-of-choice}
-use Rattle.tariff.specs.declared.lot.Class.{Class}
-use Rattle.tariff.specs.declared.lot.Lot.{Lot}
+use Rattle.tariff.specs.declared.lot.Lot.{Lot as LotFigures}
+use Rattle.draw.specs.Choice.{choice-awards, choice-next, lottery-at, pro-rata-draw, rounds-over, wheel-at}
+use Rattle.draw.specs.Fair.{all-read, lots-read}
+use Rattle.draw.specs.declared.choice.Choice.{Choice}
+use Rattle.draw.specs.declared.choice.Choice.the-variants as choice
+use Rattle.draw.specs.declared.choice.Plain.{Plain}
 use Rattle.desk.specs.Answers.{answer-text, fault-of}
-use Rattle.language.specs.Language.{written}
+use Rattle.language.specs.Commands.{written}
 use Rattle.language.specs.Text.{Meant, echoed, words}
 use Rattle.desk.specs.declared.answer.Answer.{Answer}
-use Rattle.desk.specs.declared.answer.Answer.the-variants.{Value, Refused, Error}
-use Rattle.desk.specs.declared.answer.Fault.the-variants.{UnknownCommand, LineTooLong}
+use Rattle.desk.specs.declared.answer.Answer.the-variants.{Done, Value, Awards, Refused, Error}
+use Rattle.desk.specs.declared.answer.Fault.the-variants.{UnknownCommand, Usage, LineTooLong}
+use Rattle.desk.specs.declared.state.Desk.{Desk}
 use Rattle.language.specs.declared.command.Command.{Command}
-use Rattle.language.specs.declared.command.Command.the-variants.{Expiry, LotAmount}
-use Rattle.language.specs.declared.command.Market.{Market}
-use Rattle.language.specs.declared.command.Market.the-variants.{Shares, Bonds}
+use Rattle.language.specs.declared.command.Command.the-variants.{Expiry, Lot, Draw, Award}
+use Rattle.language.specs.declared.args.Market.{Market}
+use Rattle.language.specs.declared.args.Market.the-variants.{Shares, Bonds}
+use Rattle.language.specs.declared.draws.Drawing.{Drawing}
+use Rattle.language.specs.declared.draws.Drawing.the-variants.{Wheel, ProRata, Lottery}
+use Rattle.language.specs.declared.questions.LotArgs.{LotArgs}
 use Rattle.language.specs.declared.token.Token.{Token}
 use Rattle.language.specs.declared.token.Token.the-variants.{Number, TooLarge, Name, Known, Unknown}
+use Rattle.language.specs.declared.word.Verb.the-variants as verb
 
 -- a number too large for a figure is read as the largest one, which lies outside every measure
 abbrev pub figure-of : ℕ → ℕ
@@ -44,24 +53,52 @@ abbrev pub Expires : Market → ℕ → ℕ → List ℕ → Answer → Type 0
 Expires Shares y m hs a = (r : Result ℕ Refusal) × Tells y m hs (Share-date y m hs) r × Says r a
 Expires Bonds y m hs a = (r : Result ℕ Refusal) × Tells y m hs (Bond-date y m hs) r × Says r a
 
-abbrev lot-with : Class → ℕ → ℕ → ℕ → ℕ → ℕ → Lot
-lot-with k a b s p u = record { class = k; strike = figure-of a; basis = figure-of b; spot = figure-of s; percentage = figure-of p; size = figure-of u }
+abbrev pub lot-of : LotArgs → LotFigures
+lot-of a = record {
+  class = a .class;
+  strike = figure-of (a .strike);
+  basis = figure-of (a .basis);
+  spot = figure-of (a .spot);
+  percentage = figure-of (a .percentage);
+  size = figure-of (a .size);
+}
 
--- the answer that is laid down for a command
-abbrev pub Performs : Command → Answer → Type 0
-Performs (Expiry market y m hs) a = Expires market (figure-of y) (figure-of m) (map figure-of (vec-items hs)) a
-Performs (LotAmount t k strike basis spot percentage size) a = a ≡ Value (amount-of-choice t (lot-with k strike basis spot percentage size))
+-- the draw that is named
+abbrev pub drawing-of : Drawing → Plain
+drawing-of (Wheel place) = wheel-at place
+drawing-of ProRata = pro-rata-draw
+drawing-of (Lottery x) = lottery-at x
+
+abbrev pub draw-of : Option ℕ → Plain → Choice
+draw-of None below = choice.Plain below
+draw-of (Some r) below = rounds-over (figure-of r) below
+
+-- the claims that are given, and noughts for the accounts after them
+abbrev pub claims-of : List ℕ → List ℕ
+claims-of ns = map figure-of ns ++ replicate (16 - length ns) 0
+
+-- the current draw is consulted, and goes on from where it is; more than 16 claims are not put to it
+abbrev pub Awarded : Bool → Desk → List ℕ → ℕ → Answer → Desk → Type 0
+Awarded true b claims demand a b′ = (a ≡ Awards (choice-awards (b .draw) (all-read claims) (lots-read demand))) × (b′ ≡ record { draw = choice-next (b .draw) (all-read claims) (lots-read demand) })
+Awarded false b claims demand a b′ = (a ≡ Error (Usage verb.Award)) × (b′ ≡ b)
+
+-- the answer that is laid down for a command, and what the desk keeps after it
+abbrev pub Performs : Command → Desk → Answer → Desk → Type 0
+Performs (Expiry c) b a b′ = Expires (c .market) (figure-of (c .year)) (figure-of (c .month)) (map figure-of (vec-items (c .holidays))) a × (b′ ≡ b)
+Performs (Lot c) b a b′ = (a ≡ Value (amount-of-choice (c .tariff) (lot-of c))) × (b′ ≡ b)
+Performs (Draw c) b a b′ = (a ≡ Done) × (b′ ≡ record { draw = draw-of (c .rounds) (drawing-of (c .drawing)) })
+Performs (Award c) b a b′ = Awarded (leb (length (vec-items (c .claims))) 16) b (claims-of (vec-items (c .claims))) (figure-of (c .demand)) a b′
 
 -- the answer to the words of a line: of the command that they write, or the reason why they write none
-abbrev pub Answers : List Token → Answer → Type 0
-Answers [] a = ⊥
-Answers (Number n ∷ args) a = a ≡ Error UnknownCommand
-Answers (TooLarge ∷ args) a = a ≡ Error UnknownCommand
-Answers (Known w ∷ args) a = a ≡ Error UnknownCommand
-Answers (Unknown ∷ args) a = a ≡ Error UnknownCommand
-Answers (Name v ∷ args) a =
-    ((c : Command) × ((Name v ∷ args) ≡ written c) × Performs c a)
-    ⊎ (((c : Command) → (Name v ∷ args) ≡ written c → ⊥) × (a ≡ Error (fault-of v args)))
+abbrev pub Answers : List Token → Desk → Answer → Desk → Type 0
+Answers [] b a b′ = ⊥
+Answers (Number n ∷ args) b a b′ = (a ≡ Error UnknownCommand) × (b′ ≡ b)
+Answers (TooLarge ∷ args) b a b′ = (a ≡ Error UnknownCommand) × (b′ ≡ b)
+Answers (Known w ∷ args) b a b′ = (a ≡ Error UnknownCommand) × (b′ ≡ b)
+Answers (Unknown ∷ args) b a b′ = (a ≡ Error UnknownCommand) × (b′ ≡ b)
+Answers (Name v ∷ args) b a b′ =
+    ((c : Command) × ((Name v ∷ args) ≡ written c) × Performs c b a b′)
+    ⊎ (((c : Command) → (Name v ∷ args) ≡ written c → ⊥) × (a ≡ Error (fault-of v args)) × (b′ ≡ b))
 
 -- what stands after the echo of the command
 abbrev pub after-echo : Answer → List ℕ
@@ -80,11 +117,11 @@ abbrev pub too-long : List ℕ → Bool
 too-long line = ltb longest-line (length line)
 
 -- the answer to a line, after its echo
-abbrev pub Answered : Bool → List ℕ → Answer → List ℕ → Type 0
-Answered true line a text = (a ≡ Error LineTooLong) × (text ≡ codes ".." ++ after-echo a)
-Answered false line a text = ((ts : List Token) × Meant (words line) ts × Answers ts a) × (text ≡ echoed (words line) ++ after-echo a)
+abbrev pub Answered : Bool → List ℕ → Desk → Answer → Desk → List ℕ → Type 0
+Answered true line b a b′ text = (a ≡ Error LineTooLong) × (b′ ≡ b) × (text ≡ codes ".." ++ after-echo a)
+Answered false line b a b′ text = ((ts : List Token) × Meant (words line) ts × Answers ts b a b′) × (text ≡ echoed (words line) ++ after-echo a)
 
--- what is written for a line
-abbrev pub Replies : List ℕ → Option Answer → List ℕ → Type 0
-Replies line None text = (passed-over (words line) ≡ true) × (text ≡ [])
-Replies line (Some a) text = (passed-over (words line) ≡ false) × Answered (too-long line) line a text
+-- what is written for a line, and what the desk keeps after it
+abbrev pub Replies : List ℕ → Desk → Option Answer → Desk → List ℕ → Type 0
+Replies line b None b′ text = (passed-over (words line) ≡ true) × (b′ ≡ b) × (text ≡ [])
+Replies line b (Some a) b′ text = (passed-over (words line) ≡ false) × Answered (too-long line) line b a b′ text

@@ -1,12 +1,15 @@
 // What the console answers to a command.
 ghost use mathlib.Core.Path.{_≡_};
-ghost use Rattle.std.specs.declared.option.Option.the-variants.{Some};
-ghost use Rattle.desk.specs.Answers.{answer-text, fault-of, fault-text};
+ghost use mathlib.Core.List.{_++_};
+ghost use lib.Chars.{codes};
+ghost use Rattle.std.specs.Of.String.{string-bytes};
+ghost use Rattle.std.specs.Vec.{made};
+ghost use Rattle.desk.specs.Answers.{answer-text, fault-of, fault-text, figures-text};
 use language::Token;
 use language::Verb;
 use measures::Refusal;
 use measures::RefusalDisplay;
-use std::fmt;
+use std::alloc::AllocError;
 
 // Why a line is no command.
 #[derive(Clone, Copy)]
@@ -20,7 +23,10 @@ pub enum Fault {
 
 #[derive(Clone, Copy)]
 pub enum Answer {
+    // done, with nothing to tell
+    Done,
     Value(u64),
+    Awards([u32; 16]),
     Refused(Refusal),
     Error(Fault),
 }
@@ -50,17 +56,45 @@ impl Fault {
     }
 }
 
-pub impl fmt::Display for Answer as AnswerDisplay {
-    ghost shown = { λ a. Some (answer-text a) };
+// Writes the figures, each after a space.
+fn write_figures(figures: &[u32], out: &mut String) -> Result<(), AllocError>
+    ensures { λ r. ⌜ made r (λ _. string-bytes (now (out .exit)) ≡ string-bytes (now (out .entry)) ++ figures-text (now (figures .entry))) ⌝ }
+{
+    for figure in figures {
+        let Ok(()) = write!(out, " {figure}") else {
+            return Err(AllocError);
+        };
+    }
+    Ok(())
+}
 
-    fn fmt<W: fmt::Write>(&self, f: &mut fmt::Formatter<W>) -> fmt::Result {
-        match self {
-            Answer::Value(n) => write!(f, "ok {n}"),
-            Answer::Refused(refusal) => write!(f, "refused {refusal}"),
+// Writes `ok` and the figures.
+fn write_all(figures: &[u32], out: &mut String) -> Result<(), AllocError>
+    ensures { λ r. ⌜ made r (λ _. string-bytes (now (out .exit)) ≡ string-bytes (now (out .entry)) ++ (codes "ok" ++ figures-text (now (figures .entry)))) ⌝ }
+{
+    out.push_str("ok")?;
+    write_figures(figures, out)?;
+    Ok(())
+}
+
+impl Answer {
+    // Writes the answer.
+    pub fn write(self, out: &mut String) -> Result<(), AllocError>
+        ensures { λ r. ⌜ made r (λ _. string-bytes (now (out .exit)) ≡ string-bytes (now (out .entry)) ++ answer-text self) ⌝ }
+    {
+        let wrote = match self {
+            Answer::Done => return out.push_str("ok"),
+            Answer::Awards(awards) => return write_all(&awards, out),
+            Answer::Value(n) => write!(out, "ok {n}"),
+            Answer::Refused(refusal) => write!(out, "refused {refusal}"),
             Answer::Error(fault) => {
                 let words = fault.words();
-                write!(f, "error {words}")
+                write!(out, "error {words}")
             }
+        };
+        match wrote {
+            Ok(()) => Ok(()),
+            Err(_) => Err(AllocError),
         }
     }
 }

@@ -3,5 +3,6 @@ mod answer;
 mod console;
 mod perform;
 mod run;
+mod state;
 
 pub use run::Console;

@@ -1,4 +1,3 @@
 pub mod Echoes
 pub mod Numbers
-pub mod Tokens
 pub mod Words

@@ -18,9 +18,9 @@ use Rattle.std.proofs.shelf.Text.{utf8-from-ascii}
 use Rattle.std.proofs.shelf.Decimals.{ascii-from-digits}
 use Rattle.language.specs.Text.{Numeral, number-on, named, spelled}
 use Rattle.language.specs.declared.word.Verb.{Verb}
-use Rattle.language.specs.declared.word.Verb.the-variants.{Expiry, Lot}
+use Rattle.language.specs.declared.word.Verb.the-variants.{Expiry, Lot, Draw, Award}
 use Rattle.language.specs.declared.word.Word.{Word}
-use Rattle.language.specs.declared.word.Word.the-variants.{Shares, Bonds, Call, Put}
+use Rattle.language.specs.declared.word.Word.the-variants.{Shares, Bonds, Call, Put, Wheel, ProRata, Lottery, Rounds}
 
 pub own : Numerals (λ ds. allDigits ds ≡ true) (number-on 0)
 own = numerals-by-fold _ (search needs) number-on (search needs)
@@ -33,6 +33,8 @@ pub verbs-utf8 : (v : Verb) → Utf8 (named v)
 unfolding lib.Utf8.encode
 verbs-utf8 Expiry = (named Expiry, (refl, refl))
 verbs-utf8 Lot = (named Lot, (refl, refl))
+verbs-utf8 Draw = (named Draw, (refl, refl))
+verbs-utf8 Award = (named Award, (refl, refl))
 
 pub words-utf8 : (w : Word) → Utf8 (spelled w)
 unfolding lib.Utf8.encode
@@ -40,6 +42,10 @@ words-utf8 Shares = (spelled Shares, (refl, refl))
 words-utf8 Bonds = (spelled Bonds, (refl, refl))
 words-utf8 Call = (spelled Call, (refl, refl))
 words-utf8 Put = (spelled Put, (refl, refl))
+words-utf8 Wheel = (spelled Wheel, (refl, refl))
+words-utf8 ProRata = (spelled ProRata, (refl, refl))
+words-utf8 Lottery = (spelled Lottery, (refl, refl))
+words-utf8 Rounds = (spelled Rounds, (refl, refl))
 
 module _ {E : Type 0} (bs ws : List ℕ) (r : Result ℕ E) (same : ws ≡ bs) (numeral : Numeral bs) (reads : ReadsUnsigned 64 10 ws r) where
   converted : Converted r ((0 < length bs) × (number-on 0 bs < 2 ^ 64)) (number-on 0 bs)

@@ -10,9 +10,9 @@ use Rattle.std.specs.shelf.Text.{allDigits}
 use Rattle.language.specs.declared.token.Token.{Token}
 use Rattle.language.specs.declared.token.Token.the-variants.{Number, TooLarge, Name, Known, Unknown}
 use Rattle.language.specs.declared.word.Verb.{Verb}
-use Rattle.language.specs.declared.word.Verb.the-variants.{Expiry, Lot}
+use Rattle.language.specs.declared.word.Verb.the-variants.{Expiry, Lot, Draw, Award}
 use Rattle.language.specs.declared.word.Word.{Word}
-use Rattle.language.specs.declared.word.Word.the-variants.{Shares, Bonds, Call, Put}
+use Rattle.language.specs.declared.word.Word.the-variants.{Shares, Bonds, Call, Put, Wheel, ProRata, Lottery, Rounds}
 
 -- bytes up to the space part words
 abbrev pub blank : ℕ → Bool
@@ -35,11 +35,15 @@ words bs = split [] bs
 abbrev pub named : Verb → List ℕ
 named Expiry = codes "EXPIRY"
 named Lot = codes "LOT"
+named Draw = codes "DRAW"
+named Award = codes "AWARD"
 
 -- how the command is written, for people
 abbrev pub usage : Verb → List ℕ
 usage Expiry = codes "usage: EXPIRY SHARES|BONDS year month holiday .."
 usage Lot = codes "usage: LOT 2017|1996 CALL|PUT strike basis spot percentage lot"
+usage Draw = codes "usage: DRAW [ROUNDS r] WHEEL place|PRORATA|LOTTERY x"
+usage Award = codes "usage: AWARD demand claim .. (at most 16 claims)"
 
 -- the words that stand among its figures
 abbrev pub spelled : Word → List ℕ
@@ -47,6 +51,10 @@ spelled Shares = codes "SHARES"
 spelled Bonds = codes "BONDS"
 spelled Call = codes "CALL"
 spelled Put = codes "PUT"
+spelled Wheel = codes "WHEEL"
+spelled ProRata = codes "PRORATA"
+spelled Lottery = codes "LOTTERY"
+spelled Rounds = codes "ROUNDS"
 
 -- a decimal number: digits, and at least one; leading noughts are allowed
 abbrev pub Numeral : List ℕ → Type 0

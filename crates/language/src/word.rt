@@ -9,6 +9,8 @@ ghost use Rattle.language.specs.declared.word.Word.{Word as AnyWord};
 pub enum Verb {
     Expiry,
     Lot,
+    Draw,
+    Award,
 }
 
 #[derive(Clone, Copy)]
@@ -17,6 +19,10 @@ pub enum Word {
     Bonds,
     Call,
     Put,
+    Wheel,
+    ProRata,
+    Lottery,
+    Rounds,
 }
 
 impl Verb {
@@ -27,6 +33,8 @@ impl Verb {
         match text {
             "EXPIRY" => Some(Verb::Expiry),
             "LOT" => Some(Verb::Lot),
+            "DRAW" => Some(Verb::Draw),
+            "AWARD" => Some(Verb::Award),
             _ => None,
         }
     }
@@ -38,6 +46,8 @@ impl Verb {
         match self {
             Verb::Expiry => "usage: EXPIRY SHARES|BONDS year month holiday ..",
             Verb::Lot => "usage: LOT 2017|1996 CALL|PUT strike basis spot percentage lot",
+            Verb::Draw => "usage: DRAW [ROUNDS r] WHEEL place|PRORATA|LOTTERY x",
+            Verb::Award => "usage: AWARD demand claim .. (at most 16 claims)",
         }
     }
 }
@@ -52,6 +62,10 @@ impl Word {
             "BONDS" => Some(Word::Bonds),
             "CALL" => Some(Word::Call),
             "PUT" => Some(Word::Put),
+            "WHEEL" => Some(Word::Wheel),
+            "PRORATA" => Some(Word::ProRata),
+            "LOTTERY" => Some(Word::Lottery),
+            "ROUNDS" => Some(Word::Rounds),
             _ => None,
         }
     }

@@ -1,1 +1,2 @@
 pub mod Measured
+pub mod Sums
