@@ -152,6 +152,36 @@ mod tests {
         )
     }
 
+    // A line that is no command, or no draw, leaves the draw where it is.
+    #[test]
+    fn draws(rt: LibcRuntime) -> Result<(), Fail> {
+        let heap = rt.alloc();
+        expect(
+            heap,
+            b"DRAW\nDRAW WHEEL\nDRAW PRORATA 1\n",
+            "DRAW: error usage: DRAW [ROUNDS r] WHEEL place|PRORATA|LOTTERY x\nDRAW WHEEL: error usage: DRAW [ROUNDS r] WHEEL place|PRORATA|LOTTERY x\nDRAW PRORATA 1: error usage: DRAW [ROUNDS r] WHEEL place|PRORATA|LOTTERY x\n",
+            true,
+        )?;
+        expect(
+            heap,
+            b"DRAW ROUNDS 2\nDRAW ROUNDS WHEEL 2\nDRAW ROUNDS 2 ROUNDS 2 PRORATA\n",
+            "DRAW ROUNDS 2: error usage: DRAW [ROUNDS r] WHEEL place|PRORATA|LOTTERY x\nDRAW ROUNDS WHEEL 2: error usage: DRAW [ROUNDS r] WHEEL place|PRORATA|LOTTERY x\nDRAW ROUNDS 2 ROUNDS 2 PRORATA: error usage: DRAW [ROUNDS r] WHEEL place|PRORATA|LOTTERY x\n",
+            true,
+        )?;
+        expect(
+            heap,
+            b"AWARD\nAWARD 1 x\nAWARD 1 2 2 2 2 2 2 2 2 2 2 2 2 2 2 2 2 2\n",
+            "AWARD: error usage: AWARD demand claim .. (at most 16 claims)\nAWARD 1 x: error usage: AWARD demand claim .. (at most 16 claims)\nAWARD 1 2 2 2 2 2 2 2 2 2 2 2 2 2 2 2 2 2: error usage: AWARD demand claim .. (at most 16 claims)\n",
+            true,
+        )?;
+        expect(
+            heap,
+            b"AWARD 1 2 2\nAWARD 1 x\nEXPIRY SHARES 2017 0\nDRAW LOTTERY\nAWARD 1 2 2\n",
+            "AWARD 1 2 2: ok 1 0 0 0 0 0 0 0 0 0 0 0 0 0 0 0\nAWARD 1 x: error usage: AWARD demand claim .. (at most 16 claims)\nEXPIRY SHARES 2017 0: refused 2 figure out of range\nDRAW LOTTERY: error usage: DRAW [ROUNDS r] WHEEL place|PRORATA|LOTTERY x\nAWARD 1 2 2: ok 0 1 0 0 0 0 0 0 0 0 0 0 0 0 0 0\n",
+            true,
+        )
+    }
+
     // A command with blanks after it, so that the line has so many bytes.
     fn padded(heap: Global, bytes: usize) -> Result<Vec<u8>, AllocError> {
         let mut line = b"EXPIRY SHARES 2017 2".to_vec(heap)?;

@@ -2,7 +2,7 @@
 use Prim.Native.Nat.{ℕ, zero, suc, _+_, _-_, _<_, _≤_}
 use mathlib.Core.Path.{_≡_, refl, sym, ap, _∙_}
 use mathlib.Core.Bool.{cond}
-use mathlib.Core.List.{List, [], _∷_, _++_}
+use mathlib.Core.List.{List, [], _∷_}
 use mathlib.Core.Logic.{_⊎_, inl, inr, ⊎-elim}
 use native.Mathlib.Omega.{arith}
 use lib.ListN.{length, getD, take, drop}
@@ -11,7 +11,7 @@ use Rattle.std.proofs.shelf.Tests.{cases-lt, ne-eqb}
 use Rattle.std.proofs.shelf.Ways.{tells}
 use Rattle.measures.specs.Sums.{total}
 use Rattle.measures.proofs.Sums.{entry-within, total-append}
-use Rattle.draw.specs.Wheel.{Follows, In-turn, Last, Turns, Wheel-goes-round, after-last, filled, next-place, turn, wheel-awards}
+use Rattle.draw.specs.Wheel.{Follows, In-turn, Wheel-goes-round, after-last, filled, next-place, turn, wheel-awards}
 use Rattle.draw.proofs.Turning.{length-filled, wheel-fair}
 
 filled-none : (cs : List ℕ) (demand k : ℕ) → demand ≡ 0 → getD (filled cs demand) k 0 ≡ 0

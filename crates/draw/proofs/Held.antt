@@ -1,17 +1,19 @@
 -- Rounds come to their end, and owe what every draw owes.
 use Prim.Native.Nat.{ℕ, zero, suc, _+_, _-_, _<_, _≤_, min}
 use mathlib.Core.Path.{_≡_, refl, sym, ap, _∙_}
-use mathlib.Core.Bool.{Bool, true, false, _||_, cond}
+use mathlib.Core.Bool.{Bool, true, false, cond}
 use mathlib.Core.List.{List, [], _∷_}
-use mathlib.Core.Logic.{_⊎_, inl, inr}
+use mathlib.Core.HLevel.{isProp→PathP}
+use native.Mathlib.Bridge.{le-prop}
 use native.Mathlib.Omega.{arith}
-use lib.Dec.{eqb}
 use lib.ListN.{length, getD}
 use Rattle.std.proofs.shelf.Lists.{length-map}
 use Rattle.std.proofs.shelf.Ways.{tells}
 use Rattle.measures.specs.Sums.{total}
-use Rattle.draw.specs.Fair.{Fair, less}
-use Rattle.draw.specs.Rounds.{Standing, standing, cut, round, rounds, used-up, rounds-awards, rounds-end}
+use Rattle.draw.specs.Fair.{Fair}
+use Rattle.draw.specs.Rounds.{Awards, Next, Standing, Until, standing, cut, round, rounds, used-up, rounds-awards, rounds-end}
+use Rattle.draw.specs.Rounds.Until.{over, goes-on}
+use Rattle.draw.specs.declared.rounds.Rounds.{Rounds}
 use Rattle.draw.proofs.Tables.{length-less, getD-less, total-less}
 
 pub cut-within : (r : ℕ) (xs : List ℕ) (k : ℕ) → getD (cut r xs) k 0 ≤ getD xs k 0
@@ -43,7 +45,7 @@ went-on s t u a b = record {
   same = omega arith;
 }
 
-module _ {D : Type 0} (awards : D → List ℕ → ℕ → List ℕ) (next : D → List ℕ → ℕ → D) (r : ℕ) (one : 1 ≤ r)
+module _ {D : Type 0} (awards : Awards D) (next : Next D) (r : ℕ) (one : 1 ≤ r)
     (fair : (d : D) (claims : List ℕ) (demand : ℕ) → Fair claims demand (awards d claims demand)) where
   pub rounds-over : (n : ℕ) (s : Standing D) → used-up (s .left) (s .rest) ≡ true → rounds awards next r n s ≡ s
   rounds-over zero s used = refl
@@ -71,29 +73,30 @@ module _ {D : Type 0} (awards : D → List ℕ → ℕ → List ℕ) (next : D �
       let cuts = cut-some r (s .left) one some in
       omega (arith, f .whole)
 
-  -- with rounds enough, the demand or the claims are used up
-  pub record Ended (s t : Standing D) : Type 0 where
-    pub went : Went s t
-    pub used : used-up (t .left) (t .rest) ≡ true
+  until-on : (n : ℕ) (s : Standing D) → s .rest ≤ suc n → ((t : Standing D) → t .rest ≤ n → Until awards next r t (rounds awards next r n t)) → (b : Bool) → used-up (s .left) (s .rest) ≡ b → Until awards next r s (cond b s (rounds awards next r n (round awards next r s)))
+  until-on n s h rec true e = over e
+  until-on n s h rec false e = goes-on e (rec (round awards next r s) (omega (arith, round-takes s e)))
 
-  ended-on : (n : ℕ) (s : Standing D) → s .rest ≤ suc n → ((t : Standing D) → t .rest ≤ n → Ended t (rounds awards next r n t)) → (b : Bool) → used-up (s .left) (s .rest) ≡ b → Ended s (cond b s (rounds awards next r n (round awards next r s)))
-  ended-on n s h rec true e = record { went = went-nowhere s; used = e }
-  ended-on n s h rec false e =
-      let then = rec (round awards next r s) (omega (arith, round-takes s e)) in
-      record { went = went-on s (round awards next r s) (rounds awards next r n (round awards next r s)) (round-went s) (then .went); used = then .used }
+  pub rounds-until : (n : ℕ) (s : Standing D) → s .rest ≤ n → Until awards next r s (rounds awards next r n s)
+  rounds-until zero s h = over (grind (arith, tells))
+  rounds-until (suc n) s h = until-on n s h (rounds-until n) (used-up (s .left) (s .rest)) refl
 
-  rounds-end-used : (n : ℕ) (s : Standing D) → s .rest ≤ n → Ended s (rounds awards next r n s)
-  rounds-end-used zero s h = record { went = went-nowhere s; used = grind (arith, tells) }
-  rounds-end-used (suc n) s h = ended-on n s h (rounds-end-used n) (used-up (s .left) (s .rest)) refl
+  until-went : {s t : Standing D} → Until awards next r s t → Went s t
+  until-went {s} (over e) = went-nowhere s
+  until-went {s} {t} (goes-on e rest) = went-on s (round awards next r s) t (round-went s) (until-went rest)
+
+  until-used : {s t : Standing D} → Until awards next r s t → used-up (t .left) (t .rest) ≡ true
+  until-used (over e) = e
+  until-used (goes-on e rest) = until-used rest
 
   pub rounds-fair : (d : D) (claims : List ℕ) (demand : ℕ) → Fair claims demand (rounds-awards awards next r d claims demand)
   rounds-fair d claims demand =
       let s = standing d claims demand in
       let t = rounds-end awards next r d claims demand in
-      let e = rounds-end-used demand s (omega arith) in
-      let w = e .went in
+      let all = rounds-until demand s (omega arith) in
+      let w = until-went all in
       let sum = total-less claims (t .left) (omega arith) (w .within) in
-      let used = e .used in
+      let used = until-used all in
       record {
         each-claim = length-less claims (t .left);
         within = λ k. omega (arith, getD-less claims (t .left) k);
@@ -125,3 +128,7 @@ module _ {D : Type 0} (awards : D → List ℕ → ℕ → List ℕ) (next : D �
       ∙ after-round s going (s .rest) refl
       ∙ ap (λ p. rounds awards next p (s .rest) s) e
       ∙ was
+
+-- rounds are known by how many lots they are of, and by the draw below
+pub same-rounds : {D : Type 0} (s t : Rounds D) → s .most ≡ t .most → s .below ≡ t .below → s ≡ t
+same-rounds s t e f = λ i. record { most = e i; below = f i; some = isProp→PathP (λ j. 1 ≤ e j) (λ j. le-prop) (s .some) (t .some) i }

@@ -1,6 +1,6 @@
 -- The wheel owes what every draw owes.
 use Prim.Native.Nat.{ℕ, zero, suc, _+_, _-_, _<_, _≤_, min}
-use mathlib.Core.Path.{_≡_, refl, sym, ap, subst, _∙_}
+use mathlib.Core.Path.{_≡_, refl, ap, subst}
 use mathlib.Core.List.{List, [], _∷_, _++_}
 use mathlib.Core.HLevel.{isProp→PathP}
 use native.Mathlib.Bridge.{le-prop}

@@ -1,5 +1,5 @@
 -- The draws that can be chosen, each by its own rule.
-use Prim.Native.Nat.{ℕ, _%_, _≤_}
+use Prim.Native.Nat.{ℕ, _%_}
 use mathlib.Core.List.{List}
 use native.Mathlib.Nat.{le-max-right, mod-lt, zero-lt-suc}
 use Rattle.measures.specs.Ranges.{lots-measure, read-as}

@@ -33,7 +33,7 @@ turn place account = (account + 16 - place) % 16
 abbrev pub Last : ℕ → List ℕ → ℕ → Type 0
 Last place awards account = (k : ℕ) → k < 16 → turn place account < turn place k → getD awards k 0 ≡ 0
 
--- accounts are served in turn: one that is not filled is the last awarded a lot
+-- accounts are served in turn: after one that is not filled, nobody is awarded a lot
 abbrev pub In-turn : ℕ → List ℕ → List ℕ → Type 0
 In-turn place claims awards = (account : ℕ) → account < 16 → getD awards account 0 < getD claims account 0 → Last place awards account
 

@@ -11,6 +11,7 @@ use crate::rounds::RoundsDraw;
 use crate::wheel::Wheel;
 use crate::wheel::WheelDraw;
 
+// A draw over no other.
 #[derive(Clone, Copy)]
 pub enum Plain {
     Wheel(Wheel),
@@ -50,11 +51,7 @@ pub impl Draw for Plain as PlainDraw {
                 *self = Plain::Wheel(draw);
                 awards
             }
-            Plain::ProRata(mut draw) => {
-                let awards = draw.award(claims, demand);
-                *self = Plain::ProRata(draw);
-                awards
-            }
+            Plain::ProRata(mut draw) => draw.award(claims, demand),
             Plain::Lottery(mut draw) => {
                 let awards = draw.award(claims, demand);
                 *self = Plain::Lottery(draw);
@@ -75,7 +72,7 @@ impl Choice {
     pub fn rounds(r: u32, below: Plain) -> Choice
         ensures { λ c. ⌜ c ≡ rounds-over r below ⌝ }
     {
-        Choice::InRounds(Rounds::over(below, r))
+        Choice::InRounds(Rounds::of(r, below))
     }
 }
 

@@ -1,5 +1,5 @@
 // The claims of a draw: read, added up, and less what is left of them.
-ghost use Prim.Native.Nat.{ℕ, _≤_};
+ghost use Prim.Native.Nat.{_≤_};
 ghost use mathlib.Core.Path.{_≡_};
 ghost use Rattle.draw.specs.Fair.{Read, all-read, less, lots-read};
 ghost use Rattle.measures.specs.Sums.{total};

@@ -71,7 +71,7 @@ fn one_each(lots: u32, mut rests: [u32; 16], mut awards: [u32; 16]) -> [u32; 16]
 }
 
 // The parts of the claims, each rounded down.
-fn all_parts(claims: [u32; 16], demand: u32, all: u32) -> [u32; 16]
+fn all_parts(mut claims: [u32; 16], demand: u32, all: u32) -> [u32; 16]
     requires claims { ⌜ Read claims ⌝ }
     requires demand { ⌜ demand ≤ 10_000 ⌝ }
     requires all { ⌜ all ≡ total claims ⌝ }
@@ -80,26 +80,24 @@ fn all_parts(claims: [u32; 16], demand: u32, all: u32) -> [u32; 16]
     ensures within { λ r. ⌜ total r ≤ demand ⌝ }
     ensures read { λ r. ⌜ Read r ⌝ }
 {
-    let mut parts = [0; 16];
-    for (k, claim) in claims.iter().enumerate() {
-        parts[k] = part(demand, *claim, all);
+    for claim in claims.iter_mut() {
+        *claim = part(demand, *claim, all);
     }
-    parts
+    claims
 }
 
 // The remainders of the claims.
-fn all_remainders(claims: [u32; 16], demand: u32, all: u32) -> [u32; 16]
+fn all_remainders(mut claims: [u32; 16], demand: u32, all: u32) -> [u32; 16]
     requires claims { ⌜ Read claims ⌝ }
     requires demand { ⌜ demand ≤ 10_000 ⌝ }
     requires all { ⌜ all ≡ total claims ⌝ }
     requires some { ⌜ 0 < all ⌝ }
     ensures { λ r. ⌜ r ≡ remainders claims demand ⌝ }
 {
-    let mut rests = [0; 16];
-    for (k, claim) in claims.iter().enumerate() {
-        rests[k] = remainder(demand, *claim, all);
+    for claim in claims.iter_mut() {
+        *claim = remainder(demand, *claim, all);
     }
-    rests
+    claims
 }
 
 // Every claim, or where the demand is below them all the demand in proportion.

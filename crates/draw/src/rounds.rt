@@ -1,8 +1,9 @@
 // Rounds over any draw.
-ghost use Prim.Native.Nat.{_≤_};
+ghost use Prim.Native.Nat.{ℕ, _≤_};
 ghost use mathlib.Core.Path.{_≡_};
+ghost use mathlib.Core.List.{List};
 ghost use Rattle.draw.specs.Fair.{Read};
-ghost use Rattle.draw.specs.Rounds.{cut, round, rounds-awards, rounds-next, standing, used-up};
+ghost use Rattle.draw.specs.Rounds.{Until, cut, round, rounds-awards, rounds-end, rounds-next, standing, used-up};
 ghost use Rattle.measures.specs.Ranges.{lots-measure, read-as};
 use crate::claims::all_read;
 use crate::claims::less;
@@ -22,7 +23,7 @@ pub struct Rounds<D> {
 
 impl<D> Rounds<D> {
     // Rounds of r over a draw, r read as the nearest of 1 to 10,000.
-    pub fn over(below: D, r: u32) -> Rounds<D>
+    pub fn of(r: u32, below: D) -> Rounds<D>
         ensures most { λ s. ⌜ s .most ≡ read-as lots-measure r ⌝ }
         ensures below { λ s. ⌜ s .below ≡ below ⌝ }
     {
@@ -62,6 +63,11 @@ impl<D: Draw> Rounds<D> {
         take_off(left, awards);
         rest - sum(awards)
     }
+
+    // Rounds are held until the demand or the claims are used up, and no longer: that is all it says.
+    pub fn until_used_up(&self)
+        ensures { λ _. ⌜ ((claims : List ℕ) (demand : ℕ) → Until (D·Draw .awards) (D·Draw .next) (now (self .entry) .most) (standing (now (self .entry) .below) claims demand) (rounds-end (D·Draw .awards) (D·Draw .next) (now (self .entry) .most) (now (self .entry) .below) claims demand)) ⌝ }
+    {}
 }
 
 pub impl<D: Draw> Draw for Rounds<D> as RoundsDraw {

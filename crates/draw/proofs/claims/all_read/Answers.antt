@@ -1,5 +1,4 @@
 use mathlib.Core.Path.{_≡_, sym, subst}
-use native.Mathlib.Omega.{arith}
 use borrow.Author.Needs.{needs}
 use Rattle.std.proofs.shelf.Lists.{take-all, drop-all, append-nil}
 use Rattle.std.proofs.shelf.Edits.{map-over-more}

@@ -1,8 +1,7 @@
 use Prim.Native.Nat.{_<_}
-use mathlib.Core.Path.{_≡_}
 use native.Mathlib.Omega.{arith}
 use borrow.Author.Needs.{needs}
-use lib.ListN.{length, take}
+use lib.ListN.{length}
 use Rattle.std.proofs.shelf.Lists.{take-all}
 use Rattle.measures.proofs.Sums.{total-more}
 use Rattle.draw.proofs.claims.sum.Needs as need

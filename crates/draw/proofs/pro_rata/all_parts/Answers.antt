@@ -1,5 +1,6 @@
 use Prim.Native.Nat.{_*_, _/_, _≤_}
-use mathlib.Core.Path.{ap}
+use mathlib.Core.Path.{ap, _∙_}
+use mathlib.Core.List.{map}
 use native.Mathlib.Omega.{arith}
 use borrow.Author.Needs.{needs}
 use Rattle.measures.specs.Sums.{total}
@@ -12,6 +13,6 @@ pub returns : need.returns
 returns c =
     let claims = c .args .claims in
     let demand = c .args .demand in
-    let e = is-map (λ claim. demand * claim / total claims) claims (c .loop-k .parts) (search needs) (λ k inside. c .loop-k .inv .0 k (search needs)) in
-    let bound : total (c .loop-k .parts) ≤ demand = omega (arith, ap total e, parts-within claims demand (omega arith)) in
-    record { parted = e; within = bound; read = record { each = λ k. omega (arith, entry-within (c .loop-k .parts) k) } }
+    let parted = is-map (λ claim. demand * claim / c .args .all) claims (c .loop-claim .claim-items) (search needs) (search needs) ∙ ap (λ t. map (λ claim. demand * claim / t) claims) (c .pre .all) in
+    let bound : total (c .loop-claim .claim-items) ≤ demand = omega (arith, ap total parted, parts-within claims demand (omega arith)) in
+    record { parted = parted; within = bound; read = record { each = λ k. omega (arith, entry-within (c .loop-claim .claim-items) k) } }

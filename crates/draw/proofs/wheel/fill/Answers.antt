@@ -1,9 +1,8 @@
-use Prim.Native.Nat.{_+_, _-_, min}
-use mathlib.Core.Path.{_≡_, ap, sym, _∙_}
+use Prim.Native.Nat.{_+_, _-_}
+use mathlib.Core.Path.{_≡_}
 use mathlib.Core.List.{[], _∷_, _++_}
 use native.Mathlib.Omega.{arith}
-use borrow.Author.Needs.{needs}
-use lib.ListN.{getD, take, drop, set}
+use lib.ListN.{getD, take, drop}
 use Rattle.std.proofs.shelf.Lists.{at-drop-more, at-drop-all, append-assoc, append-nil, take-more-set, take-all, drop-set-lt}
 use Rattle.measures.specs.Sums.{total}
 use Rattle.draw.specs.Wheel.{filled}

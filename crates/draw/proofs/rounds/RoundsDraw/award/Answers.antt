@@ -1,13 +1,9 @@
-use Prim.Native.Nat.{_≤_}
 use mathlib.Core.Path.{_≡_, ap, sym, subst, _∙_}
-use mathlib.Core.Bool.{false}
-use mathlib.Core.HLevel.{isProp→PathP}
-use native.Mathlib.Bridge.{le-prop}
 use native.Mathlib.Omega.{arith}
 use lib.ListN.{getD}
 use Rattle.draw.specs.Fair.{Fair, all-read, less, lots-read}
 use Rattle.draw.specs.Rounds.{rounds-awards, rounds-end, standing}
-use Rattle.draw.proofs.Held.{round-on, round-takes, round-went, rounds-fair, rounds-over}
+use Rattle.draw.proofs.Held.{round-on, round-takes, round-went, rounds-fair, rounds-over, same-rounds}
 use Rattle.draw.proofs.rounds.RoundsDraw.award.Needs as need
 
 pub loop-self-less : need.loop-self-less
@@ -42,13 +38,11 @@ returns g c =
     ∙ sym (c .loop-self .inv .0)
     ∙ rounds-over (g .D·Draw .awards) (g .D·Draw .next) (self .most) (self .some) (g .D·Draw·met .fair) (c .loop-self .rest) s (sym (c .loop-self-test .ensures tt))
     in
-    let most = c .loop-self .inv .1 in
-    let below = sym (ap (λ t. t .below) end) in
     let awarded : c .less .result ≡ rounds-awards (g .D·Draw .awards) (g .D·Draw .next) (self .most) (self .below) claims demand =
     c .less .ensures ∙ ap (λ cs. less cs (c .loop-self .left)) (c .all-read-claims .ensures .each) ∙ sym (ap (λ t. less claims (t .left)) end)
     in
     record {
       awarded = awarded;
-      moved = λ i. record { most = most i; below = below i; some = isProp→PathP (λ j. 1 ≤ most j) (λ j. le-prop) (c .loop-self .self .some) (self .some) i };
+      moved = same-rounds _ _ (c .loop-self .inv .1) (sym (ap (λ t. t .below) end));
       fair = subst (Fair claims demand) (sym awarded) (rounds-fair (g .D·Draw .awards) (g .D·Draw .next) (self .most) (self .some) (g .D·Draw·met .fair) (self .below) claims demand);
     }

@@ -1,7 +1,7 @@
 use Prim.Native.Nat.{_≤_}
 use mathlib.Core.Path.{_≡_}
 use lib.ListN.{length}
-use Rattle.draw.specs.Fair.{Read, all-read, lots-read}
+use Rattle.draw.specs.Fair.{Read}
 use Rattle.draw.specs.Rounds.{rounds, rounds-end, standing}
 use Rattle.draw.proofs.rounds.RoundsDraw.award.Given as given
 
