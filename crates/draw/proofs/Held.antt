@@ -47,9 +47,9 @@ went-on s t u a b = record {
 
 module _ {D : Type 0} (awards : Awards D) (next : Next D) (r : ℕ) (one : 1 ≤ r)
     (fair : (d : D) (claims : List ℕ) (demand : ℕ) → Fair claims demand (awards d claims demand)) where
-  pub rounds-over : (n : ℕ) (s : Standing D) → used-up (s .left) (s .rest) ≡ true → rounds awards next r n s ≡ s
-  rounds-over zero s used = refl
-  rounds-over (suc n) s used = ap (λ b. cond b s (rounds awards next r n (round awards next r s))) used
+  pub rounds-ended : (n : ℕ) (s : Standing D) → used-up (s .left) (s .rest) ≡ true → rounds awards next r n s ≡ s
+  rounds-ended zero s used = refl
+  rounds-ended (suc n) s used = ap (λ b. cond b s (rounds awards next r n (round awards next r s))) used
 
   pub round-went : (s : Standing D) → Went s (round awards next r s)
   round-went s =
@@ -110,8 +110,8 @@ module _ {D : Type 0} (awards : Awards D) (next : Next D) (r : ℕ) (one : 1 ≤
 
   pub rounds-enough : (n m : ℕ) (s : Standing D) → s .rest ≤ n → s .rest ≤ m → rounds awards next r n s ≡ rounds awards next r m s
   rounds-enough zero zero s h k = refl
-  rounds-enough zero (suc m) s h k = sym (rounds-over (suc m) s (grind (arith, tells)))
-  rounds-enough (suc n) zero s h k = rounds-over (suc n) s (grind (arith, tells))
+  rounds-enough zero (suc m) s h k = sym (rounds-ended (suc m) s (grind (arith, tells)))
+  rounds-enough (suc n) zero s h k = rounds-ended (suc n) s (grind (arith, tells))
   rounds-enough (suc n) (suc m) s h k = same-on n m s h k (rounds-enough n m) (used-up (s .left) (s .rest)) refl
 
   after-round : (s : Standing D) → used-up (s .left) (s .rest) ≡ false → (m : ℕ) → s .rest ≡ m → rounds awards next r (round awards next r s .rest) (round awards next r s) ≡ rounds awards next r m s

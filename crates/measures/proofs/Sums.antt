@@ -33,11 +33,6 @@ entry-stands [] i h = absurd (omega arith)
 entry-stands (x ∷ xs) zero h = omega arith
 entry-stands (x ∷ xs) (suc i) h = suc-le-suc (entry-stands xs i h)
 
-pub front-within : (xs : List ℕ) (i : ℕ) → total (take i xs) ≤ total xs
-front-within xs zero = omega arith
-front-within [] (suc i) = omega arith
-front-within (x ∷ xs) (suc i) = omega (arith, front-within xs i)
-
 -- each entry is at most m
 pub total-within : (m : ℕ) (xs : List ℕ) → ((k : ℕ) → getD xs k 0 ≤ m) → total xs ≤ length xs * m
 total-within m [] each = omega arith

@@ -3,7 +3,7 @@ use native.Mathlib.Omega.{arith}
 use lib.ListN.{getD}
 use Rattle.draw.specs.Fair.{Fair, all-read, less, lots-read}
 use Rattle.draw.specs.Rounds.{rounds-awards, rounds-end, standing}
-use Rattle.draw.proofs.Held.{round-on, round-takes, round-went, rounds-fair, rounds-over, same-rounds}
+use Rattle.draw.proofs.Held.{round-on, round-takes, round-went, rounds-fair, rounds-ended, same-rounds}
 use Rattle.draw.proofs.rounds.RoundsDraw.award.Needs as need
 
 pub loop-self-less : need.loop-self-less
@@ -36,7 +36,7 @@ returns g c =
     ap (λ cs. rounds-end (g .D·Draw .awards) (g .D·Draw .next) (self .most) (self .below) cs demand) (sym (c .all-read-claims .ensures .each))
     ∙ ap (λ n. rounds-end (g .D·Draw .awards) (g .D·Draw .next) (self .most) (self .below) (c .all-read-claims .result) n) (sym (c .lots-read-rest .ensures))
     ∙ sym (c .loop-self .inv .0)
-    ∙ rounds-over (g .D·Draw .awards) (g .D·Draw .next) (self .most) (self .some) (g .D·Draw·met .fair) (c .loop-self .rest) s (sym (c .loop-self-test .ensures tt))
+    ∙ rounds-ended (g .D·Draw .awards) (g .D·Draw .next) (self .most) (self .some) (g .D·Draw·met .fair) (c .loop-self .rest) s (sym (c .loop-self-test .ensures tt))
     in
     let awarded : c .less .result ≡ rounds-awards (g .D·Draw .awards) (g .D·Draw .next) (self .most) (self .below) claims demand =
     c .less .ensures ∙ ap (λ cs. less cs (c .loop-self .left)) (c .all-read-claims .ensures .each) ∙ sym (ap (λ t. less claims (t .left)) end)
