@@ -1,4 +1,6 @@
 // Expiry dates: the day of a month on which the options on shares, and those on bonds, expire.
+#![tactic(auto)]
+
 mod business;
 mod month;
 

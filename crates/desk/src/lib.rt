@@ -1,4 +1,6 @@
 // The desk: commands performed, and answered in text.
+#![tactic(auto)]
+
 mod answer;
 mod console;
 mod perform;

@@ -1,4 +1,6 @@
 // The console on lines that are no commands, and on an input that comes in parts. Each test is proved, and then run.
+#![tactic(auto)]
+
 #[cfg(test)]
 mod tests {
     use desk::Console;

@@ -1,4 +1,6 @@
 // Draws: how an exercise falls on the writers of its series.
+#![tactic(auto)]
+
 ghost use Rattle.draw.specs.Worked.{Worked};
 
 mod choice;

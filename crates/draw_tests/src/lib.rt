@@ -1,4 +1,6 @@
 // Rounds over rounds, which the console does not have. Each test is proved, and then run.
+#![tactic(auto)]
+
 #[cfg(test)]
 mod tests {
     use draw::{Draw, Lottery, Rounds, Wheel};

@@ -1,4 +1,6 @@
 // The program: standard input, or the file that its argument names, answered line by line on standard output.
+#![tactic(auto)]
+
 use anyhow::anyhow;
 use desk::Console;
 use std::env;

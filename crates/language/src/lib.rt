@@ -1,4 +1,6 @@
 // The console's language: a line of text taken apart into words, and the command that they write.
+#![tactic(auto)]
+
 mod args;
 mod command;
 mod draws;

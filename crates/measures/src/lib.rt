@@ -1,4 +1,6 @@
 // What every part of the option book agrees on: the refusals with their numbers, and the measures of the figures.
+#![tactic(auto)]
+
 mod measure;
 mod refusal;
 

@@ -1,4 +1,6 @@
 // What one uncovered lot requires: the interface that the book is proved against, and two tariffs.
+#![tactic(auto)]
+
 ghost use Rattle.tariff.specs.Worked.{Worked};
 
 mod delivered;

@@ -1,5 +1,5 @@
 use Rattle.std.proofs.Common.{refl, arith}
-use Rattle.std.proofs.ByRecursion.{All-get_or, All_more}
+use Rattle.std.proofs.ByRecursion.{All-get_or, All-more}
 use Rattle.std.proofs.lemmas.List.{take_all}
 use Rattle.std.proofs.lemmas.Bool.{false≢true}
 use Rattle.calendar.specs.Days.{InMonth}
@@ -15,7 +15,7 @@ returns-then-not-holds c = (
 
 pub loop-day-preserved : goal.loop-day-preserved
 loop-day-preserved c =
-    All_more (InMonth c.args.self.year c.args.self.number) c.args.holidays.now c.loop-day.day-index 0 (omega arith)
+    All-more (InMonth c.args.self.year c.args.self.number) c.args.holidays.now c.loop-day.day-index 0 (omega arith)
     c.loop-day.invariant (c.holds.ensures.0 c.if-not-holds.false)
 
 pub returns : goal.returns
