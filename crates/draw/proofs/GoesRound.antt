@@ -2,10 +2,9 @@
 use Rattle.std.proofs.Common.{◌≡◌, ℕ, zero, suc, ◌+◌, ◌-◌, ◌<◌, ◌≤◌, cond, ◌⊎◌, List, [], ◌∷◌, length, get_or, take, drop, sym, refl, ap, ◌∙◌, inl, inr, ⊎_elim, arith}
 use Rattle.std.proofs.lemmas.List.{get_or_append_left, get_or-append_right, get_or-drop, get_or-take, length-drop, length-take, take-append-drop}
 use Rattle.std.proofs.lemmas.Bool.{cases_lt, ne_eqb}
-use Rattle.std.proofs.lemmas.Bool.Decides.{nat_tests}
 use Rattle.measures.specs.Sums.{total}
 use Rattle.measures.proofs.Sums.{entry_within, total-append}
-use Rattle.draw.specs.Wheel.{Follows, InTurn, WheelGoesRound, after_last, filled, next_place, turn, wheel_awards}
+use Rattle.draw.specs.Wheel.{Follows, InTurn, WheelGoesRound, after_last, filled, next_place, wheel_awards}
 use Rattle.draw.specs.Turning.{length-filled, wheel_fair}
 
 filled_none : (cs : List ℕ) (demand k : ℕ) → demand ≡ 0 → get_or (filled cs demand) k 0 ≡ 0

@@ -1,1 +1,2 @@
 pub mod GoesRound
+pub mod Known

@@ -3,7 +3,7 @@ use Rattle.std.specs.Prelude.{◌≡◌, ℕ, zero, suc, ◌+◌, ◌-◌, ◌/�
 use Rattle.std.proofs.Common.{sym, ap, ◌∙◌, inl, inr, arith}
 use Rattle.std.proofs.lemmas.Nat.{mod_below}
 use Rattle.std.proofs.lemmas.List.{take_all, get_or-set_same, get_or-set_other, length-set}
-use Rattle.std.proofs.lemmas.Bool.{cases_eq, cases_lt, cond_both, cond-true, cond_false, lt-ltb, le-ltb, ltb-true, ltb-false}
+use Rattle.std.proofs.lemmas.Bool.{cases_eq, cases_lt, cond_both, cond-true, cond-false, lt-ltb, le-ltb, ltb-true, ltb-false}
 use Rattle.measures.specs.Sums.{total}
 use Rattle.measures.proofs.Sums.{entry_stands, total-set}
 use Rattle.draw.specs.Fair.{Fair}
@@ -26,7 +26,7 @@ of_no_other [] zero t h = absurd (omega (arith, h.below))
 of_no_other [] (suc account) t h = absurd (omega (arith, h.below))
 of_no_other (lots ∷ rest) zero t h = cond-true (nat_lt t lots) _ _ (lt-ltb t lots (omega (arith, h.below)))
 of_no_other (lots ∷ rest) (suc account) t h =
-    cond_false (nat_lt t lots) _ _ (le-ltb t lots (omega (arith, h.from)))
+    cond-false (nat_lt t lots) _ _ (le-ltb t lots (omega (arith, h.from)))
     ∙ ap suc (of_no_other rest account (t - lots) (record { from = omega (arith, h.from); below = omega (arith, h.from, h.below) }))
 
 pub tickets_shared_out : TicketsSharedOut

@@ -1,15 +1,12 @@
 -- Rounds come to their end, and owe what every draw owes.
-use Rattle.std.specs.Prelude.{◌≡◌, ℕ, zero, suc, ◌+◌, ◌-◌, ◌<◌, ◌≤◌, min, Bool, true, false, cond, List, [], ◌∷◌, length, slice_index, refl}
+use Rattle.std.specs.Prelude.{◌≡◌, ℕ, zero, suc, ◌+◌, ◌<◌, ◌≤◌, min, Bool, true, false, cond, List, [], ◌∷◌, length, slice_index, refl}
 use Rattle.std.proofs.Common.{sym, ap, ◌∙◌, arith}
-use mathlib.Core.HLevel.{is_prop→PathP}
-use Rattle.std.proofs.Math.Bridge.{le_prop}
 use Rattle.std.proofs.lemmas.List.{length-map}
 use Rattle.std.proofs.lemmas.Bool.Decides.{nat_tests}
 use Rattle.measures.specs.Sums.{total}
 use Rattle.draw.specs.Fair.{Fair}
 use Rattle.draw.specs.Rounds.{Awards, Next, Standing, Until, standing, cut, round, rounds, used_up, rounds_awards, rounds_end}
 use Rattle.draw.specs.Rounds.Until.{over, goes_on}
-use Rattle.draw.specs.declared.rounds.Rounds.{Rounds}
 use Rattle.draw.specs.Tables.{length-less, get_or-less, total-less}
 
 pub cut_within : (r : ℕ) (xs : List ℕ) (k : ℕ) → slice_index (cut r xs) k ≤ slice_index xs k
@@ -124,7 +121,3 @@ module _ {D : Type 0} (awards : Awards D) (next : Next D) (r : ℕ) (one : 1 ≤
       ∙ after_round s going s.rest refl
       ∙ ap (λ p. rounds awards next p s.rest s) e
       ∙ was
-
--- rounds are known by how many lots they are of, and by the draw below
-pub same_rounds : {D : Type 0} (s t : Rounds D) → s.most ≡ t.most → s.below ≡ t.below → s ≡ t
-same_rounds s t e f = λ i. record { most = e i; below = f i; some = is_prop→PathP (λ j. 1 ≤ e j) (λ j. le_prop) s.some t.some i }

@@ -1,14 +1,11 @@
 -- The wheel owes what every draw owes.
-use Rattle.std.specs.Prelude.{◌≡◌, ℕ, zero, suc, ◌+◌, ◌-◌, ◌<◌, ◌≤◌, min, List, [], ◌∷◌, ◌++◌, length, take, drop, slice_index, refl}
+use Rattle.std.specs.Prelude.{◌≡◌, ℕ, zero, suc, ◌-◌, ◌≤◌, min, List, [], ◌∷◌, ◌++◌, length, take, drop, slice_index, refl}
 use Rattle.std.proofs.Common.{ap, subst, arith}
-use mathlib.Core.HLevel.{is_prop→PathP}
-use Rattle.std.proofs.Math.Bridge.{le_prop}
 use Rattle.std.proofs.lemmas.List.{length-append, take-append-drop}
 use Rattle.measures.specs.Sums.{total}
 use Rattle.measures.proofs.Sums.{total-append}
 use Rattle.draw.specs.Fair.{Fair}
 use Rattle.draw.specs.Wheel.{filled, wheel_awards}
-use Rattle.draw.specs.declared.wheel.Wheel.{Wheel}
 
 pub length-filled : (cs : List ℕ) (demand : ℕ) → length (filled cs demand) ≡ length cs
 length-filled [] demand = refl
@@ -40,7 +37,3 @@ wheel_fair place claims demand =
       within = within-append _ _ _ _ (length-filled before left) (filled_within before left) (filled_within on demand);
       whole = omega (arith, total-append (filled before left) (filled on demand), total-append before on, total-filled before left, total-filled on demand);
     })
-
--- a wheel is known by its place
-pub same_wheel : (v w : Wheel) → v.place ≡ w.place → v ≡ w
-same_wheel v w e = λ i. record { place = e i; inside = is_prop→PathP (λ j. e j < 16) (λ j. le_prop) v.inside w.inside i }

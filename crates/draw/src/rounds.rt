@@ -1,20 +1,31 @@
 // Rounds over any draw.
-ghost use Rattle.std.specs.Prelude.{◌≡◌, ℕ, ◌≤◌, List};
+ghost use Rattle.std.specs.Prelude.{◌≡◌, ℕ, ◌≤◌, List, ⊤};
 ghost use Rattle.draw.specs.Fair.{Read};
+ghost use Rattle.draw.specs.Held.{rounds_fair};
 ghost use Rattle.draw.specs.Rounds.{Until, cut, round, rounds_awards, rounds_end, rounds_next, standing, used_up};
 ghost use Rattle.measures.specs.Ranges.{lots_measure, read_as};
-ghost use Rattle.std.proofs.Common.{rules, arith};
 
 use crate::claims::{all_read, less, lots_read, sum, take_off};
 use crate::draw::Draw;
 use measures::Measure;
+use std::alloc::AllocError;
 
 // Puts the claims to the draw below in rounds of so many lots for each account.
-#[derive(Clone, Copy)]
+#[derive(Copy)]
 pub struct Rounds<D> {
     most: u32,
     below: D,
     ghost some: { 1 ≤ most },
+}
+
+impl<D: Copy> Clone for Rounds<D> {
+    ghost is_clone = { λ s copy. copy ≡ s };
+
+    ghost is_infallible = { λ _. ⊤ };
+
+    fn clone(&self) -> Result<Self, AllocError> {
+        Ok(*self)
+    }
 }
 
 impl<D> Rounds<D> {
@@ -71,7 +82,7 @@ impl<D: Draw> Draw for Rounds<D> {
 
     ghost next = { λ s claims demand. record { most = s.most; below = rounds_next D.Draw.awards D.Draw.next s.most s.below claims demand; some = s.some } };
 
-    ghost fair = { first_of (Prim.search rules, Prim.grind (arith, Self.row.coded.inj)) };
+    ghost fair = { λ s. rounds_fair D.Draw.awards D.Draw.next s.most s.some D.Draw.fair s.below };
 
     fn award(&mut self, claims: [u32; 16], demand: u32) -> [u32; 16] {
         let claims = all_read(claims);

@@ -1,6 +1,7 @@
 // The wheel.
 ghost use Rattle.std.specs.Prelude.{◌≡◌, ◌+◌, ◌-◌, ◌%◌, ◌<◌, ◌≤◌, length};
-ghost use Rattle.std.proofs.Common.{mod-lt, zero-lt-suc, rules, arith};
+ghost use Rattle.std.proofs.Common.{mod-lt, zero-lt-suc};
+ghost use Rattle.draw.specs.Turning.{wheel_fair};
 ghost use Rattle.draw.specs.Wheel.{WheelGoesRound, after_last, filled, next_place, wheel_awards};
 ghost use Rattle.measures.specs.Sums.{total};
 
@@ -79,7 +80,7 @@ impl Draw for Wheel {
 
     ghost next = { λ w claims demand. record { place = next_place w.place (wheel_awards w.place claims demand); inside = mod-lt _ (zero-lt-suc 15) } };
 
-    ghost fair = { first_of (Prim.search rules, Prim.grind (arith, Self.row.coded.inj)) };
+    ghost fair = { λ w. wheel_fair w.place };
 
     fn award(&mut self, claims: [u32; 16], demand: u32) -> [u32; 16] {
         let awards = go_round(self.place, all_read(claims), lots_read(demand));

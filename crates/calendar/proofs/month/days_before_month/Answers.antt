@@ -7,8 +7,8 @@ pub loop-earlier-init : goal.loop-earlier-init
 unfolding days_of_months
 loop-earlier-init c = (refl, omega arith)
 
-pub overflow-add-days : goal.overflow-add-days
-overflow-add-days c = omega (arith, month_length_most c.args.year c.loop-earlier.earlier (omega arith))
+pub overflow_add-days : goal.overflow_add-days
+overflow_add-days c = omega (arith, month_length_most c.args.year c.loop-earlier.earlier (omega arith))
 
 pub loop-earlier-preserved : goal.loop-earlier-preserved
 loop-earlier-preserved c =

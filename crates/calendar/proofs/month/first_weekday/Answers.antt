@@ -3,11 +3,11 @@ use Rattle.calendar.specs.Days.{weekday}
 use Rattle.calendar.proofs.Lengths.{days_of_years_is, days_of_months_most}
 use Rattle.calendar.proofs.month.first_weekday.Goals as goal
 
-pub overflow-add-result : goal.overflow-add-result
-overflow-add-result c = omega (arith, days_of_years_is (c.args.year - 2000) (omega arith))
+pub overflow_add-result : goal.overflow_add-result
+overflow_add-result c = omega (arith, days_of_years_is (c.args.year - 2000) (omega arith))
 
-pub overflow-add-result-2 : goal.overflow-add-result-2
-overflow-add-result-2 c =
+pub overflow_add-result-2 : goal.overflow_add-result-2
+overflow_add-result-2 c =
     omega (arith, days_of_years_is (c.args.year - 2000) (omega arith), days_of_months_most c.args.year c.args.month)
 
 pub returns : goal.returns

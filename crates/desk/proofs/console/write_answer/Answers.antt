@@ -7,4 +7,4 @@ pub returns : goal.returns
 returns c =
     let out = string_bytes c.args.out.now in
     let told = answer_text c.args.answer in
-    added out (codes ": " ++ told) _ (added out (codes ": ") told c.in-ok-push-str.ensures.bytes c.in-ok-write.ensures) c.in-ok-push-str-2.ensures.bytes
+    added out (codes ": " ++ told) _ (added out (codes ": ") told c.in_ok-push_str.ensures.bytes c.in_ok-write.ensures) c.in_ok-push_str-2.ensures.bytes

@@ -6,7 +6,7 @@ use Rattle.desk.proofs.perform.figures.Goals as goal
 pub loop-n-preserved : goal.loop-n-preserved
 loop-n-preserved c =
     let more = map_more figure_of c.args.ns.now c.loop-n.n-index 0 (omega arith) in
-    let added = c.in-ok-push.ensures.items in
+    let added = c.in_ok-push.ensures.items in
     cc
 
 pub returns : goal.returns

@@ -3,8 +3,8 @@ use Rattle.std.proofs.lemmas.List.{take_all}
 use Rattle.measures.proofs.Sums.{total_more}
 use Rattle.draw.proofs.claims.sum.Goals as goal
 
-pub overflow-add-sum : goal.overflow-add-sum
-overflow-add-sum c = let below = c.requires.each c.loop-claim.claim-index in search rules
+pub overflow_add-sum : goal.overflow_add-sum
+overflow_add-sum c = let below = c.requires.each c.loop-claim.claim-index in search rules
 
 pub loop-claim-preserved : goal.loop-claim-preserved
 loop-claim-preserved c =

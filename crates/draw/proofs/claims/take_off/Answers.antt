@@ -1,4 +1,4 @@
-use Rattle.std.proofs.Common.{◌+◌, ◌-◌, ◌<◌, [], ◌∷◌, ◌++◌, length, get_or, take, drop, sym, ap, ◌∙◌, arith, rules}
+use Rattle.std.proofs.Common.{◌+◌, ◌<◌, [], ◌∷◌, ◌++◌, length, get_or, take, drop, sym, ap, ◌∙◌, arith, rules}
 use Rattle.std.proofs.lemmas.List.{append_assoc, append-nil, at_drop_more, at_drop_all, take_more_set, take_all, drop-set-lt, length-set}
 use Rattle.draw.specs.Fair.{less}
 use Rattle.draw.proofs.claims.take_off.Goals as goal
@@ -8,7 +8,7 @@ loop-k-preserved c =
     let xs = c.loop-k.claims in
     let ys = c.args.lots in
     let k = c.loop-k.k in
-    let award = c.saturating-sub.result in
+    let award = c.saturating_sub.result in
     let inside : k < length ys = search rules in
     let front = take_more_set xs k award (omega arith) in
     let back = drop-set-lt (k + 1) xs k award (omega arith) in

@@ -14,5 +14,5 @@ loop-k-preserved c =
     let of-x : x_after here x ≡ x_after rest (stepped x) = ap (λ n. x_after n x) count in
     let of_left : left_after here x left ≡ left_after rest (stepped x) (drawn left (stepped x)) = ap (λ n. left_after n x left) count in
     let one = ticket_drawn left (stepped x) (omega arith) in
-    let less = c.draw-lot-x.ensures.remaining in
+    let less = c.draw_lot-x.ensures.remaining in
     (cc, cc, omega (arith, one.whole, ap total less), omega (arith, one.each_account, ap length less))

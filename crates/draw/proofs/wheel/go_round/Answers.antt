@@ -4,11 +4,11 @@ use Rattle.std.proofs.lemmas.Slice.{between_to_end, overwrites, take-put_mid_bel
 use Rattle.draw.specs.Turning.{length-filled}
 use Rattle.draw.proofs.wheel.go_round.Goals as goal
 
-pub slice-bounds-awards-end-2 : goal.slice-bounds-awards-end-2
-slice-bounds-awards-end-2 c = search (rules, overwrites, length-filled)
+pub slice_bounds-awards-end-2 : goal.slice_bounds-awards-end-2
+slice_bounds-awards-end-2 c = search (rules, overwrites, length-filled)
 
-pub slice-bounds-fill-end : goal.slice-bounds-fill-end
-slice-bounds-fill-end c = search (rules, overwrites, length-filled)
+pub slice_bounds-fill-end : goal.slice_bounds-fill-end
+slice_bounds-fill-end c = search (rules, overwrites, length-filled)
 
 pub returns : goal.returns
 returns c =

@@ -3,17 +3,17 @@ use Rattle.std.proofs.lemmas.List.{get_or-map, length-map, take_more, map_push, 
 use Rattle.language.specs.declared.token.Token.TheVariants.{Number}
 use Rattle.language.proofs.args.numbers.Goals as goal
 
-pub returns-in-default : goal.returns-in-default
-returns-in-default c ns e =
+pub returns-in_default : goal.returns-in_default
+returns-in_default c ns e =
     let i = c.loop-token.token-index in
-    c.in-default.not-Number (get_or ns i 0)
+    c.in_default.not-Number (get_or ns i 0)
     (ap (λ ts. get_or ts i (Number 0)) e ∙ get_or-map Number ns i 0 (Number 0) (omega (arith, ap length e ∙ length-map ns Number)))
 
 pub loop-token-preserved : goal.loop-token-preserved
 loop-token-preserved c =
     let a = take_more c.args.tokens.now c.loop-token.token-index (Number 0) (omega arith) in
     let b = map_push Number (vec_items c.loop-token.all) c.in-Number.n in
-    let p = c.in-ok-push.ensures.items in
+    let p = c.in_ok-push.ensures.items in
     let t = c.in-Number.is in
     cc
 

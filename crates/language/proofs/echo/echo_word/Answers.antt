@@ -9,7 +9,7 @@ loop-b-preserved c =
     let i = c.loop-b.b-index in
     let more = map_more printed word i 0 (omega arith) in
     let join = append_assoc (string_bytes c.args.out.now) (map printed (take i word)) (printed (get_or word i 0) ∷ []) in
-    let added = c.in-ok-push.ensures.bytes in
+    let added = c.in_ok-push.ensures.bytes in
     let one = c.push.ensures.ascii c.printable.ensures.ascii in
     cc
 

@@ -25,7 +25,7 @@ loop-token-preserved c =
     let f = fault_of c.args.verb in
     let i = c.loop-token.token-index in
     let more = at_drop_more f c.args.args.now i (Number 0) (omega arith) in
-    sym (sym c.loop-token.invariant ∙ more ∙ ap (λ b. cond b NumberTooLarge (f (drop (i + 1) c.args.args.now))) (small _ c.in-default.not-TooLarge))
+    sym (sym c.loop-token.invariant ∙ more ∙ ap (λ b. cond b NumberTooLarge (f (drop (i + 1) c.args.args.now))) (small _ c.in_default.not-TooLarge))
 
 pub returns : goal.returns
 returns c =

@@ -6,13 +6,13 @@ use Rattle.desk.specs.declared.answer.Fault.TheVariants.{LineTooLong}
 use Rattle.language.proofs.Echoes.{added}
 use Rattle.desk.proofs.state.Desk.reply.Goals as goal
 
-pub returns-then-line-gt-LONGEST-LINE : goal.returns-then-line-gt-LONGEST-LINE
-returns-then-line-gt-LONGEST-LINE c =
+pub returns-then-line-gt-LONGEST_LINE : goal.returns-then-line-gt-LONGEST_LINE
+returns-then-line-gt-LONGEST_LINE c =
     let a : Answer = Error LineTooLong in
     let text = codes ".." ++ after_echo a in
     let b = c.args.self.now in
     let long : too_long c.args.line.now ≡ true = search rules in (
       text,
       (search rules, subst (λ (t : Bool). Answered t c.args.line.now b a b text) (sym long) (refl, refl, refl)),
-      added (string_bytes c.args.out.now) (codes "..") _ c.in-ok-push-str.ensures.bytes c.in-ok-write-answer.ensures,
+      added (string_bytes c.args.out.now) (codes "..") _ c.in_ok-push_str.ensures.bytes c.in_ok-write_answer.ensures,
     )

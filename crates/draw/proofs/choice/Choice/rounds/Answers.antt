@@ -1,6 +1,6 @@
 use Rattle.std.proofs.Common.{ap}
 use Rattle.draw.specs.declared.choice.Choice.TheVariants.{InRounds}
-use Rattle.draw.specs.Held.{same_rounds}
+use Rattle.draw.proofs.Known.{same_rounds}
 use Rattle.draw.proofs.choice.Choice.rounds.Goals as goal
 
 pub returns : goal.returns

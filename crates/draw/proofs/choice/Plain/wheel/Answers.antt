@@ -1,6 +1,6 @@
 use Rattle.std.proofs.Common.{ap}
 use Rattle.draw.specs.declared.choice.Plain.TheVariants.{Wheel}
-use Rattle.draw.specs.Turning.{same_wheel}
+use Rattle.draw.proofs.Known.{same_wheel}
 use Rattle.draw.proofs.choice.Plain.wheel.Goals as goal
 
 pub returns : goal.returns

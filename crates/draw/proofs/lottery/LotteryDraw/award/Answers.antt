@@ -12,5 +12,5 @@ returns c =
     let demand = lots_read c.args.demand in
     let lots : c.min.result ≡ min demand (total claims) = cc in
     let awarded : c.less.result ≡ lottery_awards x claims demand = cc in
-    let e : c.draw-lots-self.result ≡ lottery_next x claims demand = cc in
+    let e : c.draw_lots-self.result ≡ lottery_next x claims demand = cc in
     record { awarded = awarded; moved = ap (λ y. record { x = y }) e; fair = subst (Fair claims demand) (sym awarded) (lottery_fair x claims demand) }
