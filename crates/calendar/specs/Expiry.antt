@@ -1,6 +1,5 @@
 -- The expiry dates of a month, told by what sets the day apart from every other.
-use Rattle.std.specs.Prelude.{◌≡◌, ℕ, ◌-◌, ◌<◌, ◌≤◌, Bool, true, false, not, ◌&&◌, ◌||◌, List, [], ◌∷◌, length, Option, Result, MatchOption, MatchResult, ◌==◌, ◌≢◌, nat_lt}
-use Rattle.std.specs.List.{AllByRecursion as All}
+use Rattle.std.specs.Prelude.{◌≡◌, ℕ, ◌-◌, ◌<◌, ◌≤◌, Bool, true, false, not, ◌&&◌, ◌||◌, List, [], ◌∷◌, length, Option, Result, All, MatchOption, MatchResult, ◌==◌, ◌≢◌, nat_lt}
 use Rattle.measures.specs.declared.refusal.Refusal.{Refusal}
 use Rattle.measures.specs.declared.refusal.Refusal.TheVariants.{FigureOutOfRange}
 use Rattle.calendar.specs.Days.{InCalendar, InMonth, month_length, weekday, friday, count}

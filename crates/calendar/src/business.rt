@@ -1,6 +1,5 @@
 // The business days of a month; its holidays are handed in beside it.
-ghost use Rattle.std.specs.Prelude.{◌≡◌, ◌≤◌, Decides};
-ghost use Rattle.std.specs.List.{AllByRecursion as All};
+ghost use Rattle.std.specs.Prelude.{◌≡◌, ◌≤◌, All, Decides};
 ghost use Rattle.calendar.specs.Days.{InMonth, month_length};
 ghost use Rattle.calendar.specs.Expiry.{business, BondDate, Finds, LatestBusiness, listed, ShareDate};
 

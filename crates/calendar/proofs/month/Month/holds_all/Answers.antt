@@ -1,17 +1,8 @@
 use Rattle.std.proofs.Common.{refl, arith}
-use Rattle.std.proofs.ByRecursion.{All-get_or, All-more}
 use Rattle.std.proofs.lemmas.List.{take_all}
-use Rattle.std.proofs.lemmas.Bool.{false≢true}
+use Rattle.std.proofs.lemmas.List.Elements.{All-more}
 use Rattle.calendar.specs.Days.{InMonth}
 use Rattle.calendar.proofs.month.Month.holds_all.Goals as goal
-
-pub returns-then-not-holds : goal.returns-then-not-holds
-returns-then-not-holds c = (
-  λ e. absurd (false≢true e),
-  λ all.
-      c.if-not-holds.ensures.1
-      (All-get_or (InMonth c.args.self.year c.args.self.number) c.args.holidays.now c.loop-day.day-index 0 (omega arith) all),
-)
 
 pub loop-day-preserved : goal.loop-day-preserved
 loop-day-preserved c =

@@ -1,5 +1,4 @@
-use Rattle.std.proofs.Common.{take}
-use Rattle.std.specs.List.{AllByRecursion as All}
+use Rattle.std.proofs.Common.{All, take}
 use Rattle.calendar.specs.Days.{InMonth}
 use Rattle.calendar.proofs.month.Month.holds_all.Given as goal
 
