@@ -1,11 +1,11 @@
 // The program: standard input, or the file that its argument names, answered line by line on standard output.
 #![tactic(auto)]
 
-use anyhow::anyhow;
 use desk::Console;
 use std::env;
 use std::fs::File;
 use std::io::{Read, Write};
+use std::process::ExitCode;
 
 // How many bytes are read at once. Their answers are written before the next read, so each comes as soon as its line does.
 const CHUNK: usize = 65_536;
@@ -39,13 +39,13 @@ fn run(rt: &HostRuntime) -> anyhow::Result<bool> {
 }
 
 // Ends with status 1 where a line was no command, and where reading or writing failed, which it says.
-fn main(rt: HostRuntime) -> anyhow::Result<()> {
+fn main(rt: HostRuntime) -> ExitCode {
     match run(&rt) {
-        Ok(false) => Ok(()),
-        Ok(true) => Err(anyhow!("a line was no command")),
+        Ok(false) => ExitCode::SUCCESS,
+        Ok(true) => ExitCode::FAILURE,
         Err(error) => {
-            eprintln!(rt; "kunelappi: {error}")?;
-            Err(error)
+            let _ = eprintln!(rt; "kunelappi: {error}");
+            ExitCode::FAILURE
         }
     }
 }
