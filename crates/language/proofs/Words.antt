@@ -41,12 +41,12 @@ no_word (b ∷ bs) p q =
 module _ (bs mid word rest : List ℕ) (m n : ℕ)
     (m-in : m ≤ length bs) (m-all : (k : ℕ) → k < m → blank (get_or bs k 0) ≡ true) (m-stops : m < length bs → blank (get_or bs m 0) ≡ true → ⊥)
     (n-in : n ≤ length mid) (n-all : (k : ℕ) → k < n → blank (get_or mid k 0) ≡ false) (n-stops : n < length mid → blank (get_or mid n 0) ≡ false → ⊥)
-    (is-mid : mid ≡ drop m bs) (is_IsWord : word ≡ take n mid) (is-rest : rest ≡ drop n mid) where
+    (is-mid : mid ≡ drop m bs) (is-word : word ≡ take n mid) (is-rest : rest ≡ drop n mid) where
   to_mid : words bs ≡ words mid
   to_mid = after_blanks bs m m-in m-all ∙ ap words (sym is-mid)
 
   word_long : length word ≡ n
-  word_long = ap length is_IsWord ∙ length-take-le n mid n-in
+  word_long = ap length is-word ∙ length-take-le n mid n-in
 
   mid_starts : 0 < length mid → blank (get_or mid 0 0) ≡ true → ⊥
   mid_starts h t = m-stops (omega (arith, ap length is-mid ∙ length-drop m bs)) (sym (ap (λ xs. blank (get_or xs 0 0)) is-mid ∙ ap blank (get_or-drop m bs 0 0 ∙ ap (λ k. get_or bs k 0) (add-zero m))) ∙ t)
@@ -60,6 +60,6 @@ module _ (bs mid word rest : List ℕ) (m n : ℕ)
   some h =
       to_mid
       ∙ along_word [] mid n n-in n-all
-      ∙ ap (λ w. split w (drop n mid)) (sym is_IsWord)
+      ∙ ap (λ w. split w (drop n mid)) (sym is-word)
       ∙ ap (split word) (sym is-rest)
       ∙ word_ends word rest h (λ l f. n-stops (omega (arith, ap length is-rest ∙ length-drop n mid)) (sym (ap (λ xs. blank (get_or xs 0 0)) is-rest ∙ ap blank (get_or-drop n mid 0 0 ∙ ap (λ k. get_or mid k 0) (add-zero n))) ∙ f))
