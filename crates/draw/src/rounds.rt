@@ -18,6 +18,7 @@ pub struct Rounds<D> {
     ghost some: { 1 ≤ most },
 }
 
+// `Copy` asks for it, and beside a ghost field it cannot be derived.
 impl<D: Copy> Clone for Rounds<D> {
     ghost is_clone = { λ s copy. copy ≡ s };
 
