@@ -3,7 +3,7 @@ ghost use Rattle.std.specs.Prelude.{◌≡◌};
 ghost use Rattle.measures.specs.Ranges.{account_count, cash_ceiling, inside, instruction_count, lot_size_measure, lots_measure, percentage_measure, price_measure, read_as, row_ceiling, series_count, session_measure, strategy_count, theoretical_measure, underlying_count, units_ceiling};
 
 // A range of figures, both ends in it.
-#[derive(Clone, Copy, Debug)]
+#[derive(Clone, Copy, Debug, PartialEq, Eq)]
 pub struct Measure {
     pub least: u32,
     pub most: u32,
@@ -11,64 +11,40 @@ pub struct Measure {
 
 impl Measure {
     // Strike, spot and closing price, in mils.
-    pub fn price() -> Measure
-        ensures { result ≡ price_measure }
-    {
-        Measure {
-            least: 1,
-            most: 100_000_000,
-        }
-    }
+    pub const PRICE: Measure = Measure {
+        least: 1,
+        most: 100_000_000,
+    };
 
     // A theoretical price, in mils, and so a basis.
-    pub fn theoretical() -> Measure
-        ensures { result ≡ theoretical_measure }
-    {
-        Measure {
-            least: 0,
-            most: 100_000_000,
-        }
-    }
+    pub const THEORETICAL: Measure = Measure {
+        least: 0,
+        most: 100_000_000,
+    };
 
     // A list percentage, in hundredths of a percent.
-    pub fn percentage() -> Measure
-        ensures { result ≡ percentage_measure }
-    {
-        Measure {
-            least: 0,
-            most: 10_000,
-        }
-    }
+    pub const PERCENTAGE: Measure = Measure {
+        least: 0,
+        most: 10_000,
+    };
 
     // The units of one lot.
-    pub fn lot_size() -> Measure
-        ensures { result ≡ lot_size_measure }
-    {
-        Measure {
-            least: 1,
-            most: 1_000,
-        }
-    }
+    pub const LOT_SIZE: Measure = Measure {
+        least: 1,
+        most: 1_000,
+    };
 
     // The lots that one call moves.
-    pub fn lots() -> Measure
-        ensures { result ≡ lots_measure }
-    {
-        Measure {
-            least: 1,
-            most: 10_000,
-        }
-    }
+    pub const LOTS: Measure = Measure {
+        least: 1,
+        most: 10_000,
+    };
 
     // A business day, by its number.
-    pub fn session() -> Measure
-        ensures { result ≡ session_measure }
-    {
-        Measure {
-            least: 0,
-            most: 20_000,
-        }
-    }
+    pub const SESSION: Measure = Measure {
+        least: 0,
+        most: 20_000,
+    };
 
     // Whether the figure lies in the measure.
     pub fn holds(self, figure: u32) -> bool
@@ -113,4 +89,10 @@ pub fn named_figures()
     ensures row { ROW_CEILING ≡ row_ceiling }
     ensures cash { CASH_CEILING ≡ cash_ceiling }
     ensures units { UNITS_CEILING ≡ units_ceiling }
+    ensures price { Measure.PRICE ≡ price_measure }
+    ensures theoretical { Measure.THEORETICAL ≡ theoretical_measure }
+    ensures percentage { Measure.PERCENTAGE ≡ percentage_measure }
+    ensures lot_size { Measure.LOT_SIZE ≡ lot_size_measure }
+    ensures lots { Measure.LOTS ≡ lots_measure }
+    ensures session { Measure.SESSION ≡ session_measure }
 {}

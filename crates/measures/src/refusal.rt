@@ -84,8 +84,6 @@ impl fmt::Display for Refusal {
     ghost output = { λ r. Some (told r) };
 
     fn fmt<W: fmt::Write>(&self, f: &mut fmt::Formatter<W>) -> fmt::Result {
-        let number = self.number();
-        let words = self.words();
-        write!(f, "{number} {words}")
+        write!(f, "{} {}", self.number(), self.words())
     }
 }
