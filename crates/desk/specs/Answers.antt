@@ -1,13 +1,13 @@
 -- What the console answers, and in which words.
-use Rattle.std.specs.Prelude.{ℕ, Bool, true, false, cond, List, [], ◌∷◌, ◌++◌, codes, decimal}
-use Rattle.std.specs.List.{flat_map}
+use Rattle.std.specs.Prelude.{ℕ, Bool, true, false, if◌then◌else◌, List, ◌∷◌, ◌++◌, codes, decimal}
+use Rattle.std.specs.List.{flat_map, list_any}
 use Rattle.measures.specs.Refusals.{told}
 use Rattle.desk.specs.declared.answer.Answer.{Answer}
 use Rattle.desk.specs.declared.answer.Answer.TheVariants.{Done, Value, Awards, Refused, Error}
 use Rattle.desk.specs.declared.answer.Fault.{Fault}
 use Rattle.desk.specs.declared.answer.Fault.TheVariants.{UnknownCommand, Usage, NumberTooLarge, LineTooLong}
 use Rattle.language.specs.declared.token.Token.{Token}
-use Rattle.language.specs.declared.token.Token.TheVariants.{Number, TooLarge, Name, Known, Unknown}
+use Rattle.language.specs.declared.token.Token.TheVariants.{TooLarge}
 use Rattle.language.specs.declared.word.Verb.{Verb}
 use Rattle.language.specs.Text.{usage}
 
@@ -29,13 +29,9 @@ answer_text (Refused why) = codes "refused " ++ told why
 answer_text (Error fault) = codes "error " ++ fault_text fault
 
 abbrev pub too_large : Token → Bool
-too_large (Number n) = false
 too_large TooLarge = true
-too_large (Name v) = false
-too_large (Known w) = false
-too_large Unknown = false
+too_large _ = false
 
 -- why the tokens that follow the verb do not write its command
 abbrev pub fault_of : Verb → List Token → Fault
-fault_of verb [] = Usage verb
-fault_of verb (t ∷ ts) = cond (too_large t) NumberTooLarge (fault_of verb ts)
+fault_of verb ts = if list_any too_large ts then NumberTooLarge else Usage verb

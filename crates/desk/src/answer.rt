@@ -1,13 +1,15 @@
-// What the console answers to a command.
-ghost use Rattle.std.specs.Prelude.{◌≡◌, ◌++◌, string_bytes, codes, OnOk};
-ghost use Rattle.desk.specs.Answers.{answer_text, fault_of, fault_text, figures_text};
+// What the console answers to a command, and the text of it.
+ghost use Rattle.std.specs.Prelude.{◌≡◌, Some};
+ghost use Rattle.std.specs.List.{list_any};
+ghost use Rattle.desk.specs.Answers.{answer_text, fault_of, fault_text, figures_text, too_large};
+ghost use Rattle.desk.specs.Console.{Says};
 
 use language::{Token, Verb};
 use measures::Refusal;
-use std::alloc::AllocError;
+use std::fmt;
 
 // Why a line is no command.
-#[derive(Clone, Copy)]
+#[derive(Clone, Copy, Debug, PartialEq, Eq)]
 pub enum Fault {
     UnknownCommand,
     // the command is written otherwise
@@ -16,7 +18,7 @@ pub enum Fault {
     LineTooLong,
 }
 
-#[derive(Clone, Copy)]
+#[derive(Clone, Copy, Debug, PartialEq, Eq)]
 pub enum Answer {
     // done, with nothing to tell
     Done,
@@ -26,70 +28,82 @@ pub enum Answer {
     Error(Fault),
 }
 
+// Whether it is a number above 2^64 - 1.
+fn is_too_large(token: &Token) -> bool
+    ensures { result ≡ too_large token.now }
+{
+    matches!(token, Token::TooLarge)
+}
+
+fn has_too_large(tokens: &[Token]) -> bool
+    ensures { result ≡ list_any too_large tokens.now }
+{
+    tokens.iter().any(|token| is_too_large(token))
+}
+
 impl Fault {
     // Why the tokens that follow the verb do not write its command.
     pub fn of(verb: Verb, args: &[Token]) -> Fault
         ensures { result ≡ fault_of verb args.now }
     {
-        for token in args {
-            if let Token::TooLarge = token {
-                return Fault::NumberTooLarge;
-            }
+        if has_too_large(args) {
+            Fault::NumberTooLarge
+        } else {
+            Fault::Usage(verb)
         }
-        Fault::Usage(verb)
     }
+}
 
-    fn words(self) -> &'static str
-        ensures { result.now ≡ fault_text self }
-    {
-        match self {
+impl fmt::Display for Fault {
+    ghost output = { λ fault. Some (fault_text fault) };
+
+    fn fmt<W: fmt::Write>(&self, f: &mut fmt::Formatter<W>) -> fmt::Result {
+        f.write_str(match self {
             Fault::UnknownCommand => "unknown command",
             Fault::Usage(verb) => verb.usage(),
             Fault::NumberTooLarge => "number above 18446744073709551615",
             Fault::LineTooLong => "line longer than 65536 bytes",
+        })
+    }
+}
+
+// The figures, each after a space.
+#[derive(Clone, Copy)]
+struct Figures<'a>(&'a [u32]);
+
+impl fmt::Display for Figures<'_> {
+    ghost output = { λ figures. Some (figures_text figures.0.now) };
+
+    fn fmt<W: fmt::Write>(&self, f: &mut fmt::Formatter<W>) -> fmt::Result {
+        for figure in self.0 {
+            write!(f, " {figure}")?;
+        }
+        Ok(())
+    }
+}
+
+impl fmt::Display for Answer {
+    ghost output = { λ answer. Some (answer_text answer) };
+
+    fn fmt<W: fmt::Write>(&self, f: &mut fmt::Formatter<W>) -> fmt::Result {
+        match self {
+            Answer::Done => f.write_str("ok"),
+            Answer::Value(n) => write!(f, "ok {n}"),
+            Answer::Awards(awards) => write!(f, "ok{}", Figures(awards)),
+            Answer::Refused(refusal) => write!(f, "refused {refusal}"),
+            Answer::Error(fault) => write!(f, "error {fault}"),
         }
     }
 }
 
-// Writes the figures, each after a space.
-fn write_figures(figures: &[u32], out: &mut String) -> Result<(), AllocError>
-    ensures { OnOk result (string_bytes out.new ≡ string_bytes out.old ++ figures_text figures.now) }
-{
-    for figure in figures {
-        let Ok(()) = write!(out, " {figure}") else {
-            return Err(AllocError);
-        };
-    }
-    Ok(())
-}
+// The day, or the refusal.
+impl From<Result<u32, Refusal>> for Answer {
+    ghost from_gives = { Says };
 
-// Writes `ok` and the figures.
-fn write_all(figures: &[u32], out: &mut String) -> Result<(), AllocError>
-    ensures { OnOk result (string_bytes out.new ≡ string_bytes out.old ++ (codes "ok" ++ figures_text figures.now)) }
-{
-    out.push_str("ok")?;
-    write_figures(figures, out)?;
-    Ok(())
-}
-
-impl Answer {
-    // Writes the answer.
-    pub fn write(self, out: &mut String) -> Result<(), AllocError>
-        ensures { OnOk result (string_bytes out.new ≡ string_bytes out.old ++ answer_text self) }
-    {
-        let wrote = match self {
-            Answer::Done => return out.push_str("ok"),
-            Answer::Awards(awards) => return write_all(&awards, out),
-            Answer::Value(n) => write!(out, "ok {n}"),
-            Answer::Refused(refusal) => write!(out, "refused {refusal}"),
-            Answer::Error(fault) => {
-                let words = fault.words();
-                write!(out, "error {words}")
-            }
-        };
-        match wrote {
-            Ok(()) => Ok(()),
-            Err(_) => Err(AllocError),
+    fn from(day: Result<u32, Refusal>) -> Answer {
+        match day {
+            Ok(day) => Answer::Value(u64::from(day)),
+            Err(refusal) => Answer::Refused(refusal),
         }
     }
 }

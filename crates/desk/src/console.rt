@@ -12,16 +12,6 @@ use std::alloc::{AllocError, Global};
 // A longer line is not taken apart.
 pub const LONGEST_LINE: usize = 65_536;
 
-// Writes the answer, after the echo of its command.
-fn write_answer(answer: Answer, out: &mut String) -> Result<(), AllocError>
-    ensures { OnOk result (string_bytes out.new ≡ string_bytes out.old ++ after_echo answer) }
-{
-    out.push_str(": ")?;
-    answer.write(out)?;
-    out.push_str("\n")?;
-    Ok(())
-}
-
 impl Desk {
     // The answer to a command, or why it is none.
     fn answer(&mut self, heap: Global, verb: Token, args: &[Token]) -> Result<Answer, AllocError>
@@ -49,7 +39,7 @@ impl Desk {
         echo_word(first, out)?;
         let args = read_words(heap, rest, out)?;
         let answer = self.answer(heap, Token::read(first), &args)?;
-        write_answer(answer, out)?;
+        write!(out, ": {answer}\n")?;
         Ok(answer)
     }
 
@@ -71,7 +61,7 @@ impl Desk {
         if line.len() > LONGEST_LINE {
             let answer = Answer::Error(Fault::LineTooLong);
             out.push_str("..")?;
-            write_answer(answer, out)?;
+            write!(out, ": {answer}\n")?;
             return Ok(Some(answer));
         }
         let answer = self.reply_to(heap, first, rest, out)?;

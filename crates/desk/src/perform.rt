@@ -1,6 +1,6 @@
 // Commands performed.
 ghost use Rattle.std.specs.Prelude.{◌≡◌, ◌≤◌, map, length, IfOk, nat_le};
-ghost use Rattle.desk.specs.Console.{Awarded, Expires, Performs, Says, claims_of, draw_of, drawing_of, figure_of, lot_of};
+ghost use Rattle.desk.specs.Console.{Awarded, Expires, Performs, claims_of, draw_of, drawing_of, figure_of, lot_of};
 
 use crate::answer::{Answer, Fault};
 use crate::state::Desk;
@@ -14,28 +14,14 @@ use tariff::{Lot, Tariff};
 fn figure(n: u64) -> u32
     ensures { result ≡ figure_of n }
 {
-    n.min(u64::from(u32::MAX)) as u32
+    u32::try_from(n).unwrap_or(u32::MAX)
 }
 
 // The numbers as figures.
 fn figures(heap: Global, ns: &[u64]) -> Result<Vec<u32>, AllocError>
     ensures { IfOk result (λ v. v.items ≡ map figure_of ns.now) }
 {
-    let mut all = Vec::new(heap);
-    for n in ns {
-        all.push(figure(*n))?;
-    }
-    Ok(all)
-}
-
-// The day, or the refusal.
-fn dated(day: Result<u32, Refusal>) -> Answer
-    ensures { Says day result }
-{
-    match day {
-        Ok(day) => Answer::Value(u64::from(day)),
-        Err(refusal) => Answer::Refused(refusal),
-    }
+    ns.iter().map(|n| figure(*n)).collect(heap)
 }
 
 // The expiry date on that market, or its refusal.
@@ -43,8 +29,8 @@ fn expiry(market: Market, year: u32, month: u32, holidays: &[u32]) -> Answer
     ensures { Expires market year month holidays.now result }
 {
     match market {
-        Market::Shares => dated(calendar::shares(year, month, holidays)),
-        Market::Bonds => dated(calendar::bonds(year, month, holidays)),
+        Market::Shares => calendar::shares(year, month, holidays).into(),
+        Market::Bonds => calendar::bonds(year, month, holidays).into(),
     }
 }
 

@@ -36,7 +36,7 @@ impl<D> Rounds<D> {
         ensures below { result.below ≡ below }
     {
         Rounds {
-            most: Measure::lots().nearest(r),
+            most: Measure::LOTS.nearest(r),
             below,
         }
     }

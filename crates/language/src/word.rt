@@ -4,7 +4,7 @@ ghost use Rattle.language.specs.Text.{named, spelled, usage};
 ghost use Rattle.language.specs.declared.word.Verb.{Verb as AnyVerb};
 ghost use Rattle.language.specs.declared.word.Word.{Word as AnyWord};
 
-#[derive(Clone, Copy)]
+#[derive(Clone, Copy, Debug, PartialEq, Eq)]
 pub enum Verb {
     Expiry,
     Lot,
@@ -12,7 +12,7 @@ pub enum Verb {
     Award,
 }
 
-#[derive(Clone, Copy)]
+#[derive(Clone, Copy, Debug, PartialEq, Eq)]
 pub enum Word {
     Shares,
     Bonds,

@@ -32,11 +32,11 @@ impl Lot {
     {
         Lot {
             class: self.class,
-            strike: Measure::price().nearest(self.strike),
-            basis: Measure::theoretical().nearest(self.basis),
-            spot: Measure::price().nearest(self.spot),
-            percentage: Measure::percentage().nearest(self.percentage),
-            size: Measure::lot_size().nearest(self.size),
+            strike: Measure::PRICE.nearest(self.strike),
+            basis: Measure::THEORETICAL.nearest(self.basis),
+            spot: Measure::PRICE.nearest(self.spot),
+            percentage: Measure::PERCENTAGE.nearest(self.percentage),
+            size: Measure::LOT_SIZE.nearest(self.size),
         }
     }
 

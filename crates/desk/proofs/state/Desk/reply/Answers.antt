@@ -14,5 +14,5 @@ returns-then-line-gt-LONGEST_LINE c =
     let long : too_long c.args.line.now ≡ true = search rules in (
       text,
       (search rules, subst (λ (t : Bool). Answered t c.args.line.now b a b text) (sym long) (refl, refl, refl)),
-      added (string_bytes c.args.out.now) (codes "..") _ c.in_ok-push_str.ensures.bytes c.in_ok-write_answer.ensures,
+      added (string_bytes c.args.out.now) (codes "..") _ c.in_ok-push_str.ensures.bytes c.in_ok-write.ensures.bytes,
     )
