@@ -8,6 +8,7 @@ use draw::{Choice, Draw, Plain};
 use language::{Command, DrawArgs, Drawing, LotArgs, Market, Verb};
 use measures::Refusal;
 use std::alloc::{AllocError, Global};
+use std::array;
 use tariff::{Lot, Tariff};
 
 // A number too large for a figure is read as the largest one, which lies outside every measure.
@@ -74,11 +75,7 @@ fn claims_of(ns: &[u64]) -> [u32; 16]
     requires { length ns.now ≤ 16 }
     ensures { result ≡ claims_of ns.now }
 {
-    let mut claims = [0; 16];
-    for (k, n) in ns.iter().enumerate() {
-        claims[k] = figure(*n);
-    }
-    claims
+    array::from_fn(|account| ns.get(account).map_or(0, |n| figure(*n)))
 }
 
 impl Desk {

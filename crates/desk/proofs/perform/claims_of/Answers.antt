@@ -1,13 +1,10 @@
-use Rattle.std.proofs.Common.{◌≡◌, length, arith}
-use Rattle.std.proofs.lemmas.List.{take_all}
-use Rattle.desk.proofs.Claims.{claim_more}
+use Rattle.std.proofs.Common.{get_or, rules}
+use Rattle.measures.proofs.Arrays.{made_at}
+use Rattle.desk.specs.Console.{figure_of}
+use Rattle.desk.proofs.Claims.{is_claims}
 use Rattle.desk.proofs.perform.claims_of.Goals as goal
-
-pub loop-k-preserved : goal.loop-k-preserved
-loop-k-preserved c = let more = claim_more c.args.ns.now c.loop-k.k (omega arith) (omega arith) in cc
 
 pub returns : goal.returns
 returns c =
-    let whole = take_all c.loop-k.k c.args.ns.now (omega arith) in
-    let end : c.loop-k.k ≡ length c.args.ns.now = omega arith in
-    cc
+    is_claims c.args.ns.now (search rules) c.from_fn.result (search rules)
+    (λ k h. made_at _ _ (λ i. figure_of (get_or c.args.ns.now i 0)) (λ i y q called. search rules) c.from_fn.result 16 c.from_fn.ensures.items k 0 h)
