@@ -12,6 +12,7 @@ use std::alloc::{AllocError, Global};
 // The line that is not at its end yet, whether an error was told, and the desk behind it.
 #[derive(Drop)]
 pub struct Console {
+    heap: Global,
     line: Vec<u8>,
     faulty: bool,
     desk: Desk,
@@ -28,10 +29,7 @@ fn is_end(b: u8) -> bool
 fn tells_error(answer: Option<Answer>) -> bool
     ensures { result ≡ is_error answer }
 {
-    match answer {
-        Some(Answer::Error(_)) => true,
-        _ => false,
-    }
+    matches!(answer, Some(Answer::Error(_)))
 }
 
 impl Console {
@@ -40,6 +38,7 @@ impl Console {
         ensures { kept_by result ≡ nothing_heard }
     {
         Console {
+            heap,
             line: Vec::new(heap),
             faulty: false,
             desk: Desk::new(),
@@ -57,21 +56,21 @@ impl Console {
     }
 
     // Answers the line, and tells whether an error was told so far.
-    fn end_line(&mut self, heap: Global, out: &mut String) -> Result<bool, AllocError>
+    fn end_line(&mut self, out: &mut String) -> Result<bool, AllocError>
         ensures { IfOk result (λ bad. (o : AnyOption AnyAnswer) × (text : List ℕ) × Replies self.old.line.items self.old.desk o self.new.desk text × (string_bytes out.new ≡ string_bytes out.old ++ text) × (kept_by self.new ≡ after_line (kept_by self.old) o self.new.desk) × (bad ≡ self.new.faulty)) }
     {
-        let answer = self.desk.reply(heap, &self.line, out)?;
+        let answer = self.desk.reply(self.heap, &self.line, out)?;
         self.line.clear();
         self.faulty |= tells_error(answer);
         Ok(self.faulty)
     }
 
     // Hears the next byte of the input, and answers the line where it ends it.
-    fn hear_byte(&mut self, heap: Global, b: u8, out: &mut String) -> Result<(), AllocError>
+    fn hear_byte(&mut self, b: u8, out: &mut String) -> Result<(), AllocError>
         ensures { OnOk result ((text : List ℕ) × (string_bytes out.new ≡ string_bytes out.old ++ text) × Hears (kept_by self.old) (b ∷ []) (kept_by self.new) text) }
     {
         if is_end(b) {
-            self.end_line(heap, out)?;
+            self.end_line(out)?;
             Ok(())
         } else {
             self.keep(b)
@@ -79,19 +78,19 @@ impl Console {
     }
 
     // Hears the next bytes of the input, and answers each line that they end.
-    pub fn hear(&mut self, heap: Global, bytes: &[u8], out: &mut String) -> Result<(), AllocError>
+    pub fn hear(&mut self, bytes: &[u8], out: &mut String) -> Result<(), AllocError>
         ensures { OnOk result ((text : List ℕ) × (string_bytes out.new ≡ string_bytes out.old ++ text) × Hears (kept_by self.old) bytes.now (kept_by self.new) text) }
     {
         for b in bytes {
-            self.hear_byte(heap, *b, out)?;
+            self.hear_byte(*b, out)?;
         }
         Ok(())
     }
 
     // Ends the run: answers a last line that has no end, and tells whether an error was told.
-    pub fn close(mut self, heap: Global, out: &mut String) -> Result<bool, AllocError>
+    pub fn close(mut self, out: &mut String) -> Result<bool, AllocError>
         ensures { IfOk result (λ bad. (text : List ℕ) × (string_bytes out.new ≡ string_bytes out.old ++ text) × ((input before : List ℕ) → Heard input (kept_by self) before → Ran input (before ++ text) bad)) }
     {
-        self.end_line(heap, out)
+        self.end_line(out)
     }
 }

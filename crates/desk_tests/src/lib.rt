@@ -12,8 +12,8 @@ mod tests {
     fn answered(heap: Global, input: &[u8]) -> Result<(String, bool), AllocError> {
         let mut console = Console::open(heap);
         let mut text = String::new(heap);
-        console.hear(heap, input, &mut text)?;
-        let faulty = console.close(heap, &mut text)?;
+        console.hear(input, &mut text)?;
+        let faulty = console.close(&mut text)?;
         Ok((text, faulty))
     }
 
@@ -253,11 +253,11 @@ mod tests {
         let heap = rt.alloc();
         let mut console = Console::open(heap);
         let mut text = String::new(heap);
-        console.hear(heap, b"EXPIRY SHA", &mut text)?;
+        console.hear(b"EXPIRY SHA", &mut text)?;
         assert_eq!(rt; text.as_str(), "");
-        console.hear(heap, b"RES 2017 2\nX", &mut text)?;
+        console.hear(b"RES 2017 2\nX", &mut text)?;
         assert_eq!(rt; text.as_str(), "EXPIRY SHARES 2017 2: ok 17\n");
-        assert!(rt; console.close(heap, &mut text)?);
+        assert!(rt; console.close(&mut text)?);
         assert_eq!(rt;
             text.as_str(),
             "EXPIRY SHARES 2017 2: ok 17\nX: error unknown command\n"

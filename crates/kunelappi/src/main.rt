@@ -22,11 +22,11 @@ fn converse(rt: &HostRuntime, input: &mut impl Read) -> anyhow::Result<bool> {
         if count == 0 {
             break;
         }
-        console.hear(heap, &chunk[0..count], &mut text)?;
+        console.hear(&chunk[0..count], &mut text)?;
         output.write_all(text.as_bytes())?;
         text.clear();
     }
-    let faulty = console.close(heap, &mut text)?;
+    let faulty = console.close(&mut text)?;
     output.write_all(text.as_bytes())?;
     Ok(faulty)
 }
