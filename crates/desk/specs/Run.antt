@@ -1,9 +1,9 @@
 -- A run of the console: what it wrote, for all that it heard so far.
-use Rattle.std.specs.Prelude.{◌≡◌, ℕ, Bool, true, false, cond, ◌||◌, List, [], ◌∷◌, ◌++◌, length, Some, None, vec_items, Option, ◌≢◌, nat_le}
+use Rattle.std.specs.Prelude.{◌≡◌, ℕ, Bool, true, false, if◌then◌else◌, ◌||◌, List, [], ◌∷◌, ◌++◌, length, Some, vec_items, Option, ◌≢◌, nat_le}
 use Rattle.desk.specs.Console.{Replies, longest_line}
 use Rattle.desk.specs.State.{first_draw}
 use Rattle.desk.specs.declared.answer.Answer.{Answer}
-use Rattle.desk.specs.declared.answer.Answer.TheVariants.{Done, Value, Awards, Refused, Error}
+use Rattle.desk.specs.declared.answer.Answer.TheVariants.{Error}
 use Rattle.desk.specs.declared.run.Console.{Console}
 use Rattle.desk.specs.declared.state.Desk.{Desk}
 
@@ -22,16 +22,12 @@ nothing_heard = record { line = []; bad = false; desk = record { draw = first_dr
 
 -- a byte more of the line; of a line that is too long, one byte more than the longest has is kept
 abbrev pub with_byte : Kept → ℕ → Kept
-with_byte k b = record { line = cond (nat_le (length k.line) longest_line) (k.line ++ (b ∷ [])) k.line; bad = k.bad; desk = k.desk }
+with_byte k b = record { line = if nat_le (length k.line) longest_line then k.line ++ (b ∷ []) else k.line; bad = k.bad; desk = k.desk }
 
 -- the answer tells an error
 abbrev pub is_error : Option Answer → Bool
-is_error None = false
-is_error (Some Done) = false
-is_error (Some (Value n)) = false
-is_error (Some (Awards awards)) = false
-is_error (Some (Refused why)) = false
 is_error (Some (Error fault)) = true
+is_error _ = false
 
 -- after the line was answered so, and the desk left so
 abbrev pub after_line : Kept → Option Answer → Desk → Kept

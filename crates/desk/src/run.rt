@@ -1,5 +1,5 @@
 // A run of the console over an input that comes in parts.
-ghost use Rattle.std.specs.Prelude.{◌≡◌, ℕ, List, [], ◌∷◌, ◌++◌, IfOk, string_bytes, Decides, Option as AnyOption, OnOk};
+ghost use Rattle.std.specs.Prelude.{◌≡◌, ℕ, List, [], ◌∷◌, ◌++◌, IfOk, string_bytes, Option as AnyOption, OnOk};
 ghost use Rattle.desk.specs.Console.{Replies};
 ghost use Rattle.desk.specs.Run.{Heard, Hears, Ran, after_line, is_error, kept_by, nothing_heard, with_byte};
 ghost use Rattle.desk.specs.declared.answer.Answer.{Answer as AnyAnswer};
@@ -16,13 +16,6 @@ pub struct Console {
     line: Vec<u8>,
     faulty: bool,
     desk: Desk,
-}
-
-// Whether the byte ends a line.
-fn is_end(b: u8) -> bool
-    ensures { Decides result (b ≡ 10) }
-{
-    b == b'\n'
 }
 
 // Whether the answer to a line, if there is one, tells an error.
@@ -69,7 +62,7 @@ impl Console {
     fn hear_byte(&mut self, b: u8, out: &mut String) -> Result<(), AllocError>
         ensures { OnOk result ((text : List ℕ) × (string_bytes out.new ≡ string_bytes out.old ++ text) × Hears (kept_by self.old) (b ∷ []) (kept_by self.new) text) }
     {
-        if is_end(b) {
+        if b == b'\n' {
             self.end_line(out)?;
             Ok(())
         } else {
