@@ -1,4 +1,4 @@
--- How large the amounts can be, and that a lot within its measures is read as it is.
+-- A lot that is read lies in its measures, and a lot that lies in its measures requires no more than `most`.
 use Rattle.std.specs.Prelude.{◌≡◌, ℕ, ◌+◌, ◌*◌, ◌≤◌}
 use Rattle.std.proofs.Common.{arith, rules}
 use Rattle.std.proofs.lemmas.Nat.{mul-le}
@@ -18,7 +18,7 @@ module _ (lot : Lot) (m : Measured lot) where
   product_bounded = grind (arith, nat_tests, mul-le)
 
   pub bounded_2017 : rule_2017 lot ≤ most
-  bounded_2017 = grind (arith, nat_tests, mul-le)
+  bounded_2017 = omega (arith, product_bounded)
 
   pub bounded_1996 : rule_1996 lot ≤ most
   bounded_1996 = grind (arith, mul-le)

@@ -8,12 +8,12 @@ use crate::rule::Rule;
 
 // The tariff of 2017: the basis, and two or three times the list percentage of it.
 #[derive(Clone, Copy, Debug, PartialEq, Eq)]
-pub struct Tariff2017 {}
+pub struct Tariff2017;
 
 impl Rule for Tariff2017 {
-    ghost rule = { λ _ lot. rule_2017 lot };
+    ghost rule = { λ _. rule_2017 };
 
-    ghost within = { λ _ lot m. bounded_2017 lot m };
+    ghost bounded = { λ _. bounded_2017 };
 
     #[tactic(auto, using(crate::specs::Bounds::product_bounded))]
     fn required(&self, lot: Lot) -> u64 {
@@ -25,12 +25,12 @@ impl Rule for Tariff2017 {
 
 // The tariff of 1996: twice the basis, or a tenth of the strike, the greater.
 #[derive(Clone, Copy, Debug, PartialEq, Eq)]
-pub struct Tariff1996 {}
+pub struct Tariff1996;
 
 impl Rule for Tariff1996 {
-    ghost rule = { λ _ lot. rule_1996 lot };
+    ghost rule = { λ _. rule_1996 };
 
-    ghost within = { λ _ lot m. bounded_1996 lot m };
+    ghost bounded = { λ _. bounded_1996 };
 
     fn required(&self, lot: Lot) -> u64 {
         let size = u64::from(lot.size);
@@ -50,7 +50,7 @@ pub enum Delivered {
 impl Rule for Delivered {
     ghost rule = { rule_of_choice };
 
-    ghost within = { elim [ Of2017 _ ↦ bounded_2017 | Of1996 _ ↦ bounded_1996 ] };
+    ghost bounded = { elim [ Of2017 _ ↦ bounded_2017 | Of1996 _ ↦ bounded_1996 ] };
 
     fn required(&self, lot: Lot) -> u64 {
         match self {

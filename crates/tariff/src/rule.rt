@@ -15,14 +15,14 @@ pub(crate) trait Rule {
         requires { Measured lot }
         ensures { result ≡ rule self.now lot };
 
-    ghost within: { (r : Self) (lot : LotFigures) → Measured lot → rule r lot ≤ most };
+    ghost bounded: { (r : Self) (lot : LotFigures) → Measured lot → rule r lot ≤ most };
 }
 
 // Each figure is read in its measure, and the rule applied to what is read.
 impl<R: Rule> Tariff for R {
     ghost amount = { λ r lot. R.rule r (read lot) };
 
-    ghost bounded = { λ r lot. R.within r (read lot) (read_measured lot) };
+    ghost bounded = { λ r lot. R.bounded r (read lot) (read_measured lot) };
 
     ghost nearest = { λ r lot. read_once (R.rule r) lot };
 
