@@ -14,6 +14,7 @@ pub read_once : (rule : Lot → ℕ) (lot : Lot) → rule (read lot) ≡ rule (r
 read_once rule lot = search rules
 
 module _ (lot : Lot) (m : Measured lot) where
+  -- what the rule of 2017 divides
   pub product_bounded : lot.basis * lot.size * (10_000 + times lot * lot.percentage) ≤ 100_000_000 * 1_000 * 40_000
   product_bounded = grind (arith, nat_tests, mul-le)
 
