@@ -5,6 +5,7 @@ ghost use Rattle.tariff.specs.Worked.{Worked};
 
 mod delivered;
 mod lot;
+mod rule;
 mod tariff;
 
 pub use delivered::{Delivered, Tariff1996, Tariff2017};

@@ -11,7 +11,7 @@ pub enum Class {
 }
 
 // The figures that a tariff looks at. Prices are in mils, the percentage in hundredths of a percent.
-#[derive(Clone, Copy, Debug)]
+#[derive(Clone, Copy, Debug, PartialEq, Eq)]
 pub struct Lot {
     pub class: Class,
     pub strike: u32,
