@@ -1,3 +1,2 @@
 pub mod Arrays
-pub mod Measured
 pub mod Sums

@@ -1,5 +1,5 @@
 -- What one uncovered lot requires, in mils, under the tariffs of 2017 and 1996.
-use Rattle.std.specs.Prelude.{ℕ, ◌+◌, ◌*◌, ◌/◌, ◌%◌, ◌≤◌, min, max, Bool, cond, nat_lt}
+use Rattle.std.specs.Prelude.{ℕ, ◌+◌, ◌*◌, ◌/◌, ◌%◌, ◌≤◌, min, max, Bool, if◌then◌else◌, nat_lt}
 use Rattle.measures.specs.Ranges.{read_as, price_measure, theoretical_measure, percentage_measure, lot_size_measure}
 use Rattle.tariff.specs.declared.delivered.Delivered.{Delivered}
 use Rattle.tariff.specs.declared.delivered.Delivered.TheVariants.{Of2017, Of1996}
@@ -40,7 +40,7 @@ deep Put strike spot = nat_lt (spot * 100) (strike * 95)
 
 -- how many times the list percentage is added to the basis
 abbrev pub times : Lot → ℕ
-times lot = cond (deep lot.class lot.strike lot.spot) 2 3
+times lot = if deep lot.class lot.strike lot.spot then 2 else 3
 
 -- 2017: the basis, and so many times the list percentage of it, for each unit of the lot
 abbrev pub rule_2017 : Lot → ℕ
