@@ -1,6 +1,6 @@
 -- How a count of the days that pass a test falls apart at a day.
-use Rattle.std.proofs.Common.{◌≡◌, ℕ, zero, suc, ◌+◌, ◌-◌, ◌<◌, ◌≤◌, Bool, true, cond, add-zero, add_assoc, add-suc, zero-add, arith}
-use native.Mathlib.Nat.{sub_self, sub-zero}
+use Rattle.std.proofs.Common.{◌≡◌, ℕ, zero, suc, ◌+◌, ◌-◌, ◌<◌, ◌≤◌, Bool, true, cond, add-zero, add_assoc, add-suc, arith}
+use native.Mathlib.Nat.{sub-zero}
 use Rattle.calendar.specs.Days.{count}
 
 module _ (p : ℕ → Bool) where
@@ -21,11 +21,6 @@ module _ (p : ℕ → Bool) where
       let s = count_split a (d - 1 - a) (1 + (z - d)) in
       let t = count_split (a + (d - 1 - a)) 1 (z - d) in
       rw (before, s, t, here) (omega arith)
-
-  -- a count up to z that is taken one day further back
-  pub count_down : (d z : ℕ) → 1 ≤ d → d ≤ z → count p (d - 1) (z - (d - 1)) ≡ cond (p d) 1 0 + count p d (z - d)
-  unfolding count
-  count_down d z low high = simp (sub_self, zero-add) at (count_at (d - 1) d z (omega arith) high)
 
   -- of two days that pass, the later has more before it, and fewer after it up to z
   pub more_before : (d e : ℕ) → 1 ≤ d → d < e → p d ≡ true → count p 0 (d - 1) < count p 0 (e - 1)

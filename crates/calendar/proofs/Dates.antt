@@ -1,8 +1,10 @@
--- A month has at most one expiry date of shares, and one of bonds.
-use Rattle.std.proofs.Common.{◌≡◌, ℕ, ◌-◌, ◌<◌, ◌≤◌, List, Some, None, Option, sym, inl, inr, arith}
+-- A search from the last day down finds the expiry date of shares, and that of bonds; a month has at most one of each.
+use Rattle.std.proofs.Common.{◌≡◌, ℕ, ◌≤◌, List, slice_get, Some, None, Option, sym, inl, inr, arith}
+use Rattle.std.specs.List.{filter, find}
 use Rattle.std.proofs.lemmas.Bool.{cases_order}
-use Rattle.calendar.specs.Days.{count, month_length}
-use Rattle.calendar.specs.Expiry.{BondDate, Finds, LatestBusiness, No, ShareDate, The, ThirdFriday, business}
+use Rattle.calendar.specs.Days.{month_length}
+use Rattle.calendar.specs.Expiry.{BondDate, Finds, LatestBusiness, ShareDate, The, ThirdFriday, business}
+use Rattle.calendar.proofs.Countdown.{down, find_down, nth_down}
 use Rattle.calendar.proofs.Counts.{count_at, fewer_after}
 
 module _ (y m : ℕ) (hs : List ℕ) where
@@ -14,17 +16,37 @@ module _ (y m : ℕ) (hs : List ℕ) where
         | inr (inr more) ↦ omega (arith, fewer_after (business y m hs) e d (month_length y m) more a.inside.1 a.open_day)
       ]
 
-  pub the_bond_date : (d : ℕ) → BondDate y m hs d → The (BondDate y m hs) d
-  the_bond_date d date = record { is = date; only = λ e. bond_once d e date }
-
-  -- where the whole month has at most two business days
-  pub no_bond_date : (day : ℕ) → day < 1 → count (business y m hs) day (month_length y m - day) ≤ 2 → No (BondDate y m hs)
-  no_bond_date day start few =
+  -- the third business day from the last day down
+  pub bond_found : (o : Option ℕ) → o ≡ slice_get (filter (business y m hs) (down (month_length y m))) 2 → Finds (BondDate y m hs) o
+  bond_found None e =
+      let few = rw (sym e) at (nth_down (business y m hs) (month_length y m) 2) in
       record {
         none =
             λ d date.
-            let at = count_at (business y m hs) day d (month_length y m) (omega arith) date.inside.1 in
-            grind (arith, at, date.open_day, date.third_last);
+            let at = count_at (business y m hs) 0 d (month_length y m) (omega arith) date.inside.1 in
+            grind (arith, at, few, date.open_day, date.third_last);
+      }
+  bond_found (Some d) e =
+      let it = rw (sym e) at (nth_down (business y m hs) (month_length y m) 2) in
+      let date : BondDate y m hs d = record { inside = (it.0, it.1); open_day = it.2; third_last = it.3 } in
+      record { is = date; only = λ e. bond_once d e date }
+
+  -- the first business day from the limit down
+  pub latest_found : (limit : ℕ) → limit ≤ month_length y m → (o : Option ℕ) → o ≡ find (business y m hs) (down limit) → Finds (LatestBusiness y m hs limit) o
+  latest_found limit h None e =
+      let none = rw (sym e) at (find_down (business y m hs) limit) in
+      record { none = λ d day. none d day.inside.0 day.not_after day.open_day }
+  latest_found limit h (Some d) e =
+      let it = rw (sym e) at (find_down (business y m hs) limit) in
+      record {
+        is = record { inside = omega arith; open_day = it.2; not_after = it.1; latest = it.3 };
+        only =
+            λ e day.
+            elim (cases_order d e) [
+              | inl same ↦ sym same
+              | inr (inl less) ↦ absurd (it.3 e less day.not_after day.open_day)
+              | inr (inr more) ↦ absurd (day.latest d more it.1 it.2)
+            ];
       }
 
   -- the third Friday is one day, so the latest business day up to it is the date

@@ -1,10 +1,9 @@
 -- The weekdays of a month follow from that of its first day.
-use Rattle.std.proofs.Common.{◌≡◌, ℕ, ◌+◌, ◌-◌, ◌%◌, ◌<◌, ◌≤◌, Bool, eqb, sym, refl, ap, inl, inr, arith}
+use Rattle.std.proofs.Common.{◌≡◌, ℕ, ◌+◌, ◌-◌, ◌%◌, ◌<◌, ◌≤◌, Bool, true, eqb, sym, refl, ap, inl, inr, arith}
 use mathlib.Core.Path.{fun_ext}
-use Rattle.std.proofs.lemmas.Bool.{cases_order, eq-eqb}
+use Rattle.std.proofs.lemmas.Bool.{agree_below_at, cases_order, eq-eqb, eqb-true}
 use Rattle.calendar.specs.Days.{weekday, friday, count}
 use Rattle.calendar.specs.Expiry.{The, ThirdFriday}
-use Rattle.calendar.proofs.Computed.{equal_below}
 use Rattle.calendar.proofs.Counts.{more_before}
 use Rattle.calendar.proofs.Lengths.{month_length_most}
 
@@ -25,7 +24,7 @@ third f = 15 + (11 - f) % 7
 
 third_counts : (f : ℕ) → f < 7 → count (fridays f) 0 (third f - 1) ≡ 2
 unfolding count
-third_counts = equal_below (λ f. count (fridays f) 0 (third f - 1)) (λ _. 2) 7 refl
+third_counts f h = eqb-true _ _ (agree_below_at (λ f. eqb (count (fridays f) 0 (third f - 1)) 2) (λ _. true) 7 f refl h)
 
 friday_from : (y m d : ℕ) → friday y m d ≡ fridays (weekday y m 1) d
 friday_from y m d = ap (λ w. eqb w 4) (weekday_from y m d)
@@ -47,10 +46,10 @@ third_friday_is y m d h low high friday-is =
     let same : friday y m ≡ fridays (weekday y m 1) = fun_ext (friday_from y m) in
     let day : d ≡ third (weekday y m 1) = omega arith in
     let it : ThirdFriday y m d =
-    record {
-      inside = omega arith;
-      is_friday = eq-eqb (weekday y m d) 4 (omega arith);
-      third = rw (same, day) (third_counts (weekday y m 1) first);
-    }
+        record {
+          inside = omega arith;
+          is_friday = eq-eqb (weekday y m d) 4 (omega arith);
+          third = rw (same, day) (third_counts (weekday y m 1) first);
+        }
     in
     record { is = it; only = λ e. third_friday_once y m d e it }

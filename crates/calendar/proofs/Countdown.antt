@@ -1,0 +1,65 @@
+-- The days of a month from a last one down to the first, and which of them a search finds that goes down them.
+use Rattle.std.proofs.Common.{◌≡◌, ℕ, zero, suc, ◌+◌, ◌-◌, ◌<◌, ◌≤◌, Bool, true, false, cond, List, [], ◌∷◌, MatchOption, slice_get, refl, ◌∙◌, arith}
+use Rattle.std.specs.List.{filter, find}
+use Rattle.std.specs.Range.{range_inclusive_len}
+use Rattle.std.specs.declared.iter.Rev.{Rev}
+use Rattle.std.specs.declared.ops.RangeInclusive.{RangeInclusive}
+use Rattle.std.specs.Iterator.Adapters.{rev_source, rev_steps}
+use Rattle.std.proofs.iter.runs.Sources.{nat_range_inclusive_steps_back}
+use Rattle.std.proofs.lemmas.Iterator.{YieldsList}
+use Rattle.std.proofs.lemmas.Iterator.Splits.{YieldsList-from_shown_while}
+use Rattle.calendar.specs.Days.{count}
+
+abbrev pub down : ℕ → List ℕ
+down zero = []
+down (suc n) = suc n ∷ down n
+
+-- how many days `a..=b` has left, and its last day where it has one left
+abbrev left : ℕ → ℕ → Bool → ℕ
+left a b spent = range_inclusive_len (λ x y. y - x) a b spent
+
+last : (a b : ℕ) (spent : Bool) → a ≡ 1 → 0 < left a b spent → b ≡ left a b spent
+last a b true one some = absurd (omega arith)
+last a b false one some = omega arith
+
+abbrev left_in : Rev (RangeInclusive ℕ) → ℕ
+left_in s = left (rev_source s).start (rev_source s).end (rev_source s).exhausted
+
+-- the chain `(1..=n).rev()`
+pub YieldsList-from_down : (s : Rev (RangeInclusive ℕ)) (n : ℕ) → (rev_source s).start ≡ 1 → (rev_source s).end ≡ n → (rev_source s).exhausted ≡ false → YieldsList (rev_steps nat_range_inclusive_steps_back) (λ x. x) s (down n)
+YieldsList-from_down s n one end fresh =
+    let all : left_in s ≡ n = rw (one, end, fresh) (omega arith) in
+    rw all at
+    (YieldsList-from_shown_while (rev_steps nat_range_inclusive_steps_back) (λ x. x) (λ s. down (left_in s)) (λ s. (rev_source s).start ≡ 1)
+    (λ s t p h. rw h.1.0 refl)
+    (λ s x t p h.
+    let x_is : x ≡ suc (left_in t) = omega (arith, last (rev_source s).start (rev_source s).end (rev_source s).exhausted p (omega arith)) in
+    let more : left_in s ≡ suc (left_in t) = omega arith in
+    (h.0 ∙ p, rw (more, x_is) refl))
+    s one)
+
+module _ (p : ℕ → Bool) where
+  -- d is the first day from z down that passes
+  abbrev pub FirstDown : ℕ → ℕ → Type 0
+  FirstDown z d = (1 ≤ d) × (d ≤ z) × (p d ≡ true) × ((e : ℕ) → d < e → e ≤ z → p e ≡ true → ⊥)
+
+  pub find_down : (z : ℕ) → MatchOption (find p (down z)) ((e : ℕ) → 1 ≤ e → e ≤ z → p e ≡ true → ⊥) (FirstDown z)
+  find_down zero = λ e low high. absurd (omega arith)
+  find_down (suc z) = let more = find_down z in grind (arith, more)
+
+  count_more : (z d : ℕ) → d ≤ z → count p d (suc z - d) ≡ count p d (z - d) + cond (p (suc z)) 1 0
+  unfolding count
+  count_more z d h =
+      let n : suc z - d ≡ suc (z - d) = omega arith in
+      let e : d + suc (z - d) ≡ suc z = omega arith in
+      rw (n, e) refl
+
+  -- d passes, and so do j days from z down before it
+  abbrev pub NthDown : ℕ → ℕ → ℕ → Type 0
+  NthDown z j d = (1 ≤ d) × (d ≤ z) × (p d ≡ true) × (count p d (z - d) ≡ j)
+
+  pub nth_down : (z j : ℕ) → MatchOption (slice_get (filter p (down z)) j) (count p 0 z ≤ j) (NthDown z j)
+  unfolding count
+  nth_down zero j = omega arith
+  nth_down (suc z) zero = let more = nth_down z zero in let e = count_more z in grind (arith, more, e)
+  nth_down (suc z) (suc j) = let kept = nth_down z (suc j) in let more = nth_down z j in let e = count_more z in grind (arith, kept, more, e)
