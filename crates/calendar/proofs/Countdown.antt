@@ -1,7 +1,7 @@
 -- The days of a month from a last one down to the first, and which of them a search finds that goes down them.
 use Rattle.std.proofs.Common.{◌≡◌, ℕ, zero, suc, ◌+◌, ◌-◌, ◌<◌, ◌≤◌, Bool, true, false, cond, List, [], ◌∷◌, MatchOption, slice_get, refl, ◌∙◌, arith}
 use Rattle.std.specs.List.{filter, find}
-use Rattle.std.specs.Range.{range_inclusive_len}
+use Rattle.std.specs.Range.{range_inclusive_left, range_inclusive_len}
 use Rattle.std.specs.declared.iter.Rev.{Rev}
 use Rattle.std.specs.declared.ops.RangeInclusive.{RangeInclusive}
 use Rattle.std.specs.Iterator.Adapters.{rev_source, rev_steps}
@@ -14,27 +14,24 @@ abbrev pub down : ℕ → List ℕ
 down zero = []
 down (suc n) = suc n ∷ down n
 
--- how many days `a..=b` has left, and its last day where it has one left
-abbrev left : ℕ → ℕ → Bool → ℕ
-left a b spent = range_inclusive_len (λ x y. y - x) a b spent
+-- how many days the chain has left, and the last of them
+abbrev left : Rev (RangeInclusive ℕ) → ℕ
+left s = range_inclusive_left (λ a b. b - a) (rev_source s)
 
-last : (a b : ℕ) (spent : Bool) → a ≡ 1 → 0 < left a b spent → b ≡ left a b spent
+last : (a b : ℕ) (spent : Bool) → a ≡ 1 → 0 < range_inclusive_len (λ a b. b - a) a b spent → b ≡ range_inclusive_len (λ a b. b - a) a b spent
 last a b true one some = absurd (omega arith)
 last a b false one some = omega arith
-
-abbrev left_in : Rev (RangeInclusive ℕ) → ℕ
-left_in s = left (rev_source s).start (rev_source s).end (rev_source s).exhausted
 
 -- the chain `(1..=n).rev()`
 pub YieldsList-from_down : (s : Rev (RangeInclusive ℕ)) (n : ℕ) → (rev_source s).start ≡ 1 → (rev_source s).end ≡ n → (rev_source s).exhausted ≡ false → YieldsList (rev_steps nat_range_inclusive_steps_back) (λ x. x) s (down n)
 YieldsList-from_down s n one end fresh =
-    let all : left_in s ≡ n = rw (one, end, fresh) (omega arith) in
+    let all : left s ≡ n = rw (one, end, fresh) (omega arith) in
     rw all at
-    (YieldsList-from_shown_while (rev_steps nat_range_inclusive_steps_back) (λ x. x) (λ s. down (left_in s)) (λ s. (rev_source s).start ≡ 1)
+    (YieldsList-from_shown_while (rev_steps nat_range_inclusive_steps_back) (λ x. x) (λ s. down (left s)) (λ s. (rev_source s).start ≡ 1)
     (λ s t p h. rw h.1.0 refl)
     (λ s x t p h.
-    let x_is : x ≡ suc (left_in t) = omega (arith, last (rev_source s).start (rev_source s).end (rev_source s).exhausted p (omega arith)) in
-    let more : left_in s ≡ suc (left_in t) = omega arith in
+    let x_is : x ≡ suc (left t) = omega (arith, last (rev_source s).start (rev_source s).end (rev_source s).exhausted p (omega arith)) in
+    let more : left s ≡ suc (left t) = omega arith in
     (h.0 ∙ p, rw (more, x_is) refl))
     s one)
 

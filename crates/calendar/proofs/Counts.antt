@@ -23,8 +23,15 @@ module _ (p : ℕ → Bool) where
       rw (before, s, t, here) (omega arith)
 
   -- of two days that pass, the later has more before it, and fewer after it up to z
-  pub more_before : (d e : ℕ) → 1 ≤ d → d < e → p d ≡ true → count p 0 (d - 1) < count p 0 (e - 1)
-  more_before d e low high here = let s = simp sub-zero at (count_at 0 d (e - 1) low (omega arith)) in grind (arith, s)
+  more_before : (d e : ℕ) → 1 ≤ d → p d ≡ true → d < e → count p 0 (d - 1) < count p 0 (e - 1)
+  more_before d e low here less = let s = simp sub-zero at (count_at 0 d (e - 1) low (omega arith)) in grind (arith, s)
 
-  pub fewer_after : (d e z : ℕ) → d < e → e ≤ z → p e ≡ true → count p e (z - e) < count p d (z - d)
-  fewer_after d e z low high here = let s = count_at d e z low high in grind (arith, s)
+  fewer_after : (d e z : ℕ) → e ≤ z → p e ≡ true → d < e → count p e (z - e) < count p d (z - d)
+  fewer_after d e z high here less = let s = count_at d e z less high in grind (arith, s)
+
+  -- so a day that passes is told by how many stand before it, or after it
+  pub same_before : (d e : ℕ) → 1 ≤ d → 1 ≤ e → p d ≡ true → p e ≡ true → count p 0 (d - 1) ≡ count p 0 (e - 1) → e ≡ d
+  same_before d e low low' here here' same = grind (arith, more_before d e low here, more_before e d low' here')
+
+  pub same_after : (d e z : ℕ) → d ≤ z → e ≤ z → p d ≡ true → p e ≡ true → count p d (z - d) ≡ count p e (z - e) → e ≡ d
+  same_after d e z high high' here here' same = grind (arith, fewer_after d e z high' here', fewer_after e d z high here)

@@ -1,21 +1,12 @@
 -- A search from the last day down finds the expiry date of shares, and that of bonds; a month has at most one of each.
-use Rattle.std.proofs.Common.{◌≡◌, ℕ, ◌≤◌, List, slice_get, Some, None, Option, sym, inl, inr, arith}
+use Rattle.std.proofs.Common.{◌≡◌, ℕ, ◌≤◌, List, slice_get, Some, None, Option, sym, arith}
 use Rattle.std.specs.List.{filter, find}
-use Rattle.std.proofs.lemmas.Bool.{cases_order}
 use Rattle.calendar.specs.Days.{month_length}
-use Rattle.calendar.specs.Expiry.{BondDate, Finds, LatestBusiness, ShareDate, The, ThirdFriday, business}
+use Rattle.calendar.specs.Expiry.{BondDate, Finds, LatestBusiness, business}
 use Rattle.calendar.proofs.Countdown.{down, find_down, nth_down}
-use Rattle.calendar.proofs.Counts.{count_at, fewer_after}
+use Rattle.calendar.proofs.Counts.{count_at, same_after}
 
 module _ (y m : ℕ) (hs : List ℕ) where
-  bond_once : (d e : ℕ) → BondDate y m hs d → BondDate y m hs e → e ≡ d
-  bond_once d e a b =
-      elim (cases_order d e) [
-        | inl same ↦ sym same
-        | inr (inl less) ↦ omega (arith, fewer_after (business y m hs) d e (month_length y m) less b.inside.1 b.open_day)
-        | inr (inr more) ↦ omega (arith, fewer_after (business y m hs) e d (month_length y m) more a.inside.1 a.open_day)
-      ]
-
   -- the third business day from the last day down
   pub bond_found : (o : Option ℕ) → o ≡ slice_get (filter (business y m hs) (down (month_length y m))) 2 → Finds (BondDate y m hs) o
   bond_found None e =
@@ -29,7 +20,7 @@ module _ (y m : ℕ) (hs : List ℕ) where
   bond_found (Some d) e =
       let it = rw (sym e) at (nth_down (business y m hs) (month_length y m) 2) in
       let date : BondDate y m hs d = record { inside = (it.0, it.1); open_day = it.2; third_last = it.3 } in
-      record { is = date; only = λ e. bond_once d e date }
+      record { is = date; only = λ e other. same_after (business y m hs) d e (month_length y m) it.1 other.inside.1 it.2 other.open_day (omega arith) }
 
   -- the first business day from the limit down
   pub latest_found : (limit : ℕ) → limit ≤ month_length y m → (o : Option ℕ) → o ≡ find (business y m hs) (down limit) → Finds (LatestBusiness y m hs limit) o
@@ -40,24 +31,5 @@ module _ (y m : ℕ) (hs : List ℕ) where
       let it = rw (sym e) at (find_down (business y m hs) limit) in
       record {
         is = record { inside = omega arith; open_day = it.2; not_after = it.1; latest = it.3 };
-        only =
-            λ e day.
-            elim (cases_order d e) [
-              | inl same ↦ sym same
-              | inr (inl less) ↦ absurd (it.3 e less day.not_after day.open_day)
-              | inr (inr more) ↦ absurd (day.latest d more it.1 it.2)
-            ];
+        only = λ e day. let it_first = it.3 e in let day_first = day.latest d in grind (arith, it_first, day_first);
       }
-
-  -- the third Friday is one day, so the latest business day up to it is the date
-  module _ (limit : ℕ) (third : The (ThirdFriday y m) limit) where
-    latest_from : (d : ℕ) → ShareDate y m hs d → LatestBusiness y m hs limit d
-    latest_from d date = rw (third.only date.limit date.third) at date.day
-
-    pub share_found : (o : Option ℕ) → Finds (LatestBusiness y m hs limit) o → Finds (ShareDate y m hs) o
-    share_found None nothing = record { none = λ d date. nothing.none d (latest_from d date) }
-    share_found (Some d) day =
-        record {
-          is = record { limit = limit; third = third.is; day = day.is };
-          only = λ e date. day.only e (latest_from e date);
-        }

@@ -1,5 +1,6 @@
 pub mod Countdown
 pub mod Counts
 pub mod Dates
+pub mod Holidays
 pub mod Lengths
 pub mod Weekdays
