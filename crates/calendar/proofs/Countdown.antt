@@ -45,7 +45,6 @@ module _ (p : ℕ → Bool) where
   find_down (suc z) = let more = find_down z in grind (arith, more)
 
   count_more : (z d : ℕ) → d ≤ z → count p d (suc z - d) ≡ count p d (z - d) + cond (p (suc z)) 1 0
-  unfolding count
   count_more z d h =
       let n : suc z - d ≡ suc (z - d) = omega arith in
       let e : d + suc (z - d) ≡ suc z = omega arith in
@@ -56,7 +55,6 @@ module _ (p : ℕ → Bool) where
   NthDown z j d = (1 ≤ d) × (d ≤ z) × (p d ≡ true) × (count p d (z - d) ≡ j)
 
   pub nth_down : (z j : ℕ) → MatchOption (slice_get (filter p (down z)) j) (count p 0 z ≤ j) (NthDown z j)
-  unfolding count
   nth_down zero j = omega arith
   nth_down (suc z) zero = let more = nth_down z zero in let e = count_more z in grind (arith, more, e)
   nth_down (suc z) (suc j) = let kept = nth_down z (suc j) in let more = nth_down z j in let e = count_more z in grind (arith, kept, more, e)

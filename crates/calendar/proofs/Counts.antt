@@ -5,7 +5,6 @@ use Rattle.calendar.specs.Days.{count}
 
 module _ (p : ℕ → Bool) where
   count_split : (a m n : ℕ) → count p a (m + n) ≡ count p a m + count p (a + m) n
-  unfolding count
   count_split a m zero = rw (add-zero m) (omega arith)
   count_split a m (suc n) =
       let more = count_split a m n in
@@ -14,7 +13,6 @@ module _ (p : ℕ → Bool) where
 
   -- the days from past a to z are those before d, the day d, and those after it
   pub count_at : (a d z : ℕ) → a < d → d ≤ z → count p a (z - a) ≡ count p a (d - 1 - a) + cond (p d) 1 0 + count p d (z - d)
-  unfolding count
   count_at a d z low high =
       let before : z - a ≡ d - 1 - a + (1 + (z - d)) = omega arith in
       let here : a + (d - 1 - a) + 1 ≡ d = omega arith in

@@ -8,11 +8,11 @@ use Rattle.calendar.proofs.Counts.{same_before}
 use Rattle.calendar.proofs.Lengths.{month_length_most}
 
 pub weekday_from : (y m d : ℕ) → weekday y m d ≡ (weekday y m 1 + (d - 1)) % 7
-unfolding weekday
+
 weekday_from y m d = omega arith
 
 pub weekday_below : (y m d : ℕ) → weekday y m d < 7
-unfolding weekday
+
 weekday_below y m d = omega arith
 
 -- the Fridays of a month whose first day has the weekday f
@@ -23,7 +23,6 @@ abbrev third : ℕ → ℕ
 third f = 15 + (11 - f) % 7
 
 third_counts : (f : ℕ) → f < 7 → count (fridays f) 0 (third f - 1) ≡ 2
-unfolding count
 third_counts f h = eqb-true _ _ (agree_below_at (λ f. eqb (count (fridays f) 0 (third f - 1)) 2) (λ _. true) 7 f refl h)
 
 friday_from : (y m d : ℕ) → friday y m d ≡ fridays (weekday y m 1) d

@@ -6,11 +6,8 @@ use Rattle.calendar.proofs.Lengths.{days_of_months_most}
 use Rattle.calendar.proofs.month.Month.days_before.Goals as goal
 
 pub sum-requires-clause-fits : goal.sum-requires-clause-fits
-unfolding days_of_months
+
 sum-requires-clause-fits c =
     fits_from_yields_list c.iter.result _ (YieldsList-from_slice (take (c.args.self.number - 1) (month_lengths c.args.self.year)) cc)
     (omega (arith, days_of_months_most c.args.self.year c.args.self.number))
 
-pub returns : goal.returns
-unfolding days_of_months
-returns c = search rules

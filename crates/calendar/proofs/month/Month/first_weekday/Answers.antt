@@ -10,6 +10,3 @@ pub overflow_add-result-2 : goal.overflow_add-result-2
 overflow_add-result-2 c =
     omega (arith, days_of_years_is (c.args.self.year - 2000) (omega arith), days_of_months_most c.args.self.year c.args.self.number)
 
-pub returns : goal.returns
-unfolding weekday
-returns c = omega arith
