@@ -5,15 +5,7 @@ use Rattle.std.proofs.lemmas.Bool.{agree_below_at, eq-eqb, eqb-true}
 use Rattle.calendar.specs.Days.{weekday, friday, count}
 use Rattle.calendar.specs.Expiry.{The, ThirdFriday}
 use Rattle.calendar.proofs.Counts.{same_before}
-use Rattle.calendar.proofs.Lengths.{month_length_most}
-
-pub weekday_from : (y m d : ℕ) → weekday y m d ≡ (weekday y m 1 + (d - 1)) % 7
-
-weekday_from y m d = omega arith
-
-pub weekday_below : (y m d : ℕ) → weekday y m d < 7
-
-weekday_below y m d = omega arith
+use Rattle.std.proofs.lemmas.Bool.Decides.{nat_tests}
 
 -- the Fridays of a month whose first day has the weekday f
 abbrev fridays : ℕ → ℕ → Bool
@@ -26,21 +18,18 @@ third_counts : (f : ℕ) → f < 7 → count (fridays f) 0 (third f - 1) ≡ 2
 third_counts f h = eqb-true _ _ (agree_below_at (λ f. eqb (count (fridays f) 0 (third f - 1)) 2) (λ _. true) 7 f refl h)
 
 friday_from : (y m d : ℕ) → friday y m d ≡ fridays (weekday y m 1) d
-friday_from y m d = ap (λ w. eqb w 4) (weekday_from y m d)
+friday_from y m d = ap (λ w. eqb w 4) (omega arith)
 
 -- the Friday of the days 15 to 21 is the third
 pub third_friday_is : (y m d : ℕ) → m < 13 → 15 ≤ d → d ≤ 21 → (weekday y m 1 + (d - 1)) % 7 ≡ 4 → The (ThirdFriday y m) d
 third_friday_is y m d h low high friday-is =
-    let first = weekday_below y m 1 in
-    let long = month_length_most y m h in
-    let from = weekday_from y m d in
     let same : friday y m ≡ fridays (weekday y m 1) = fun_ext (friday_from y m) in
     let day : d ≡ third (weekday y m 1) = omega arith in
     let it : ThirdFriday y m d =
-        record {
-          inside = omega arith;
-          is_friday = eq-eqb (weekday y m d) 4 (omega arith);
-          third = rw (same, day) (third_counts (weekday y m 1) first);
-        }
+    record {
+      inside = grind (arith, nat_tests);
+      is_friday = eq-eqb (weekday y m d) 4 (omega arith);
+      third = rw (same, day) (third_counts (weekday y m 1) (omega arith));
+    }
     in
     record { is = it; only = λ e other. same_before (friday y m) d e it.inside.0 other.inside.0 it.is_friday other.is_friday (omega arith) }

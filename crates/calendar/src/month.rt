@@ -55,10 +55,17 @@ impl Month {
     pub fn holds_all(self, holidays: &[u32]) -> bool
         ensures { Decides result (All (InMonth self.year self.number) holidays.now) }
     {
-        holidays.iter().all(|day| (1..=self.days()).contains(day))
+        holidays.iter().all(|day| self.holds(*day))
+    }
+
+    fn holds(self, day: u32) -> bool
+        ensures { Decides result (InMonth self.year self.number day) }
+    {
+        (1..=self.days()).contains(&day)
     }
 
     // The weekday of its first day; 1 January 2000 was a Saturday.
+    #[tactic(auto, using(crate::proofs::Lengths::days_of_months_most))]
     pub fn first_weekday(self) -> u32
         ensures { result ≡ weekday self.year self.number 1 }
     {
@@ -66,6 +73,7 @@ impl Month {
     }
 
     // The days from 1 January to its first.
+    #[tactic(auto, using(crate::proofs::Lengths::days_of_months_most))]
     fn days_before(self) -> u32
         ensures { result ≡ days_of_months self.year self.number }
     {
@@ -73,8 +81,10 @@ impl Month {
     }
 
     // The days from 1 January 2000 to 1 January of its year: each fourth year from 2000 on has one day more.
+    #[tactic(auto, using(crate::proofs::Lengths::days_of_years_is))]
     fn days_before_year(self) -> u32
-        ensures { result ≡ days_of_years (self.year - 2000) }
+        ensures value { result ≡ days_of_years (self.year - 2000) }
+        ensures most { result ≤ 36525 }
     {
         let years = self.year - FIRST_YEAR;
         365 * years + (years + 3) / 4
