@@ -21,7 +21,8 @@ friday_from : (y m d : ℕ) → friday y m d ≡ fridays (weekday y m 1) d
 friday_from y m d = ap (λ w. eqb w 4) (omega arith)
 
 -- the Friday of the days 15 to 21 is the third
-pub third_friday_is : (y m d : ℕ) → m < 13 → 15 ≤ d → d ≤ 21 → (weekday y m 1 + (d - 1)) % 7 ≡ 4 → The (ThirdFriday y m) d
+pub third_friday_is : (y m d : ℕ)
+    → m < 13 → 15 ≤ d → d ≤ 21 → (weekday y m 1 + (d - 1)) % 7 ≡ 4 → The (ThirdFriday y m) d
 third_friday_is y m d h low high friday-is =
     let same : friday y m ≡ fridays (weekday y m 1) = fun_ext (friday_from y m) in
     let day : d ≡ third (weekday y m 1) = omega arith in
@@ -32,4 +33,10 @@ third_friday_is y m d h low high friday-is =
       third = rw (same, day) (third_counts (weekday y m 1) (omega arith));
     }
     in
-    record { is = it; only = λ e other. same_before (friday y m) d e it.inside.0 other.inside.0 it.is_friday other.is_friday (omega arith) }
+    record {
+      is = it;
+      only =
+          λ e other.
+          same_before (friday y m) d e it.inside.0 other.inside.0 it.is_friday other.is_friday
+          (omega arith);
+    }

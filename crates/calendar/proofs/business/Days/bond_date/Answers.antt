@@ -11,6 +11,12 @@ pub returns : goal.returns
 returns c =
     let days = c.args.self.now in
     let open_day = business days.month.year days.month.number days.holidays.now in
-    let all = YieldsList-from_down c.rev.result (month_length days.month.year days.month.number) (search rules) (search rules) (search rules) in
+    let all =
+    YieldsList-from_down c.rev.result (month_length days.month.year days.month.number) (search rules) (search rules)
+    (search rules)
+    in
     bond_found days.month.year days.month.number days.holidays.now c.nth.result
-    (rw option_map_id at (nth_from_yields_List c.nth.result _ 2 c.nth.ensures.ran (YieldsList-from_filter _ open_day (YieldsList-at c.filter.ensures.source all) c.filter.ensures.closure (λ x b q k. search (rules, tests)))))
+    (rw option_map_id at
+    (nth_from_yields_List c.nth.result _ 2 c.nth.ensures.ran
+    (YieldsList-from_filter _ open_day (YieldsList-at c.filter.ensures.source all) c.filter.ensures.closure
+    (λ x b q k. search (rules, tests)))))

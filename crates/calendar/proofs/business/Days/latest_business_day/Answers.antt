@@ -12,4 +12,5 @@ returns c =
     let open_day = business days.month.year days.month.number days.holidays.now in
     let all = YieldsList-from_down c.rev.result c.args.limit (search rules) (search rules) (search rules) in
     latest_found days.month.year days.month.number days.holidays.now c.args.limit c.requires c.find.result
-    (rw option_map_id at (find_from_yields_List open_day _ _ c.find.result c.find.ensures.ran all (λ x b q k. search (rules, tests))))
+    (rw option_map_id at
+    (find_from_yields_List open_day _ _ c.find.result c.find.ensures.ran all (λ x b q k. search (rules, tests))))
