@@ -33,7 +33,7 @@ mod tests {
 
     // The number of the refusal, if it is one.
     fn refused(answer: Result<u32, Refusal>) -> Option<u8> {
-        answer.err().map(Refusal::number)
+        answer.err().map(|why| why.number())
     }
 
     #[test]
@@ -45,13 +45,12 @@ mod tests {
     // The weekday is Sakamoto's, with Sunday as 0.
     #[test]
     fn every_third_friday(rt: HostRuntime) {
-        let shifts: [u8; 12] = [0, 3, 2, 5, 0, 3, 5, 1, 4, 6, 2, 4];
+        let shifts: [u32; 12] = [0, 3, 2, 5, 0, 3, 5, 1, 4, 6, 2, 4];
         for year in 2000..2100 {
-            for month in 1..13 {
+            for (month, shift) in (1..13).zip(shifts) {
                 let day = shares(year, month, &[]).unwrap_or(0);
                 assert!(rt; 15 <= day && day <= 21);
                 let years = if month < 3 { year - 1 } else { year };
-                let shift = shifts[month as usize - 1] as u32;
                 assert_eq!(rt;
                     (years + years / 4 - years / 100 + years / 400 + shift + day) % 7,
                     5

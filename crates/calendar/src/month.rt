@@ -58,6 +58,7 @@ impl Month {
         holidays.iter().all(|day| self.holds(*day))
     }
 
+    // Whether it is a day of the month.
     fn holds(self, day: u32) -> bool
         ensures { Decides result (InMonth self.year self.number day) }
     {
@@ -65,7 +66,7 @@ impl Month {
     }
 
     // The weekday of its first day; 1 January 2000 was a Saturday.
-    #[tactic(auto, using(crate::proofs::Lengths::days_of_months_most))]
+    #[tactic(auto, using(crate::proofs::Lengths::days_of_years_is, crate::proofs::Lengths::days_of_months_most))]
     pub fn first_weekday(self) -> u32
         ensures { result ≡ weekday self.year self.number 1 }
     {
@@ -83,8 +84,7 @@ impl Month {
     // The days from 1 January 2000 to 1 January of its year: each fourth year from 2000 on has one day more.
     #[tactic(auto, using(crate::proofs::Lengths::days_of_years_is))]
     fn days_before_year(self) -> u32
-        ensures value { result ≡ days_of_years (self.year - 2000) }
-        ensures most { result ≤ 36525 }
+        ensures { result ≡ days_of_years (self.year - 2000) }
     {
         let years = self.year - FIRST_YEAR;
         365 * years + (years + 3) / 4
