@@ -1,4 +1,4 @@
-pub mod Computed
+pub mod Countdown
 pub mod Counts
 pub mod Dates
 pub mod Holidays

@@ -16,19 +16,19 @@ month_lengths y = 31 ∷ cond (leap y) 29 28 ∷ 31 ∷ 30 ∷ 31 ∷ 30 ∷ 31 
 abbrev pub InCalendar : ℕ → ℕ → Type 0
 InCalendar y m = (2000 ≤ y) × (y ≤ 2099) × (1 ≤ m) × (m ≤ 12)
 
-unfoldable pub month_length : ℕ → ℕ → ℕ
+abbrev pub month_length : ℕ → ℕ → ℕ
 month_length y m = slice_index (month_lengths y) (m - 1)
 
 abbrev pub InMonth : ℕ → ℕ → ℕ → Type 0
 InMonth y m d = (1 ≤ d) × (d ≤ month_length y m)
 
 -- the days of the first n years from 2000 on
-unfoldable pub days_of_years : ℕ → ℕ
+abbrev pub days_of_years : ℕ → ℕ
 days_of_years zero = 0
 days_of_years (suc n) = days_of_years n + year_length (2000 + n)
 
 -- the days from 1 January of the year y to the first of its month m
-unfoldable pub days_of_months : ℕ → ℕ → ℕ
+abbrev pub days_of_months : ℕ → ℕ → ℕ
 days_of_months y m = sum (take (m - 1) (month_lengths y))
 
 -- the days from 1 January 2000 to the day d of the month m of the year y
@@ -36,13 +36,13 @@ abbrev pub days_since : ℕ → ℕ → ℕ → ℕ
 days_since y m d = days_of_years (y - 2000) + days_of_months y m + (d - 1)
 
 -- Monday is 0, and so on to Sunday, 6: 1 January 2000 was a Saturday
-unfoldable pub weekday : ℕ → ℕ → ℕ → ℕ
+abbrev pub weekday : ℕ → ℕ → ℕ → ℕ
 weekday y m d = (5 + days_since y m d) % 7
 
 abbrev pub friday : ℕ → ℕ → ℕ → Bool
 friday y m d = weekday y m d == 4
 
 -- how many of the n days that follow the day a pass the test
-unfoldable pub count : (ℕ → Bool) → ℕ → ℕ → ℕ
+abbrev pub count : (ℕ → Bool) → ℕ → ℕ → ℕ
 count p a zero = 0
 count p a (suc n) = count p a n + cond (p (a + suc n)) 1 0

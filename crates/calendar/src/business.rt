@@ -1,78 +1,89 @@
-// The business days of a month; its holidays are handed in beside it.
-ghost use Rattle.std.specs.Prelude.{◌≡◌, ◌≤◌, All, Decides};
-ghost use Rattle.calendar.specs.Days.{InMonth, month_length};
-ghost use Rattle.calendar.specs.Expiry.{business, BondDate, Finds, LatestBusiness, listed, ShareDate};
+// The business days of a month.
+ghost use Rattle.std.specs.Prelude.{◌≡◌, ◌≤◌, MatchResult};
+ghost use Rattle.measures.specs.declared.refusal.Refusal.TheVariants.{FigureOutOfRange};
+ghost use Rattle.calendar.specs.Days.{InMonth, month_length, weekday};
+ghost use Rattle.calendar.specs.Expiry.{business, BondDate, Finds, InRange, LatestBusiness, ShareDate, The, ThirdFriday};
 
-use crate::month::{Month, SATURDAY};
+use crate::month::{FRIDAY, Month, SATURDAY};
+use measures::Refusal;
 
-impl Month {
-    // Whether it is a day of the month.
-    fn holds(self, day: u32) -> bool
-        ensures { Decides result (InMonth self.year self.number day) }
+const MOST_HOLIDAYS: usize = 31;
+
+// The days of a month, with its holidays.
+#[derive(Clone, Copy, Debug)]
+pub struct Days<'a> {
+    month: Month,
+    // the weekday of the first day
+    first: u32,
+    holidays: &'a [u32],
+    ghost begins: { first ≡ weekday month.year month.number 1 },
+    ghost in_range: { InRange month.year month.number holidays.now },
+}
+
+impl<'a> Days<'a> {
+    // The days of the month, where it and its holidays are in range.
+    pub fn read(year: u32, number: u32, holidays: &'a [u32]) -> Result<Days<'a>, Refusal>
+        ensures { MatchResult result
+            (λ days. (days.month.year ≡ year) × (days.month.number ≡ number) × (days.holidays.now ≡ holidays.now))
+            (λ why. (why ≡ FigureOutOfRange) × (InRange year number holidays.now → ⊥)) }
     {
-        1 <= day && day <= self.days()
+        match Month::new(year, number) {
+            Some(month) if holidays.len() <= MOST_HOLIDAYS && month.holds_all(holidays) => {
+                let first = month.first_weekday();
+                Ok(Days {
+                    month,
+                    first,
+                    holidays,
+                })
+            }
+            _ => Err(Refusal::FigureOutOfRange),
+        }
     }
 
-    // Whether each of the holidays is a day of the month.
-    pub fn holds_all(self, holidays: &[u32]) -> bool
-        ensures { Decides result (All (InMonth self.year self.number) holidays.now) }
+    fn weekday(&self, day: u32) -> u32
+        requires { InMonth self.now.month.year self.now.month.number day }
+        ensures { result ≡ weekday self.now.month.year self.now.month.number day }
     {
-        for day in holidays {
-            if !self.holds(*day) {
-                return false;
-            }
-        }
-        true
+        (self.first + day - 1) % 7
+    }
+
+    // The Friday of the days 15 to 21.
+    fn third_friday(&self) -> u32
+        ensures { The (ThirdFriday self.now.month.year self.now.month.number) result }
+    {
+        15 + (FRIDAY + 7 - self.first) % 7
     }
 
     // Whether the day is one of Monday to Friday, and no holiday.
-    fn is_business(self, day: u32, holidays: &[u32]) -> bool
-        requires { InMonth self.year self.number day }
-        ensures { result ≡ business self.year self.number holidays.now day }
+    fn is_business(&self, day: u32) -> bool
+        requires { InMonth self.now.month.year self.now.month.number day }
+        ensures { result ≡ business self.now.month.year self.now.month.number self.now.holidays.now day }
     {
-        self.weekday(day) < SATURDAY && !is_listed(day, holidays)
+        self.weekday(day) < SATURDAY && !self.holidays.contains(&day)
     }
 
     // The latest business day up to the third Friday.
-    pub fn share_date(self, holidays: &[u32]) -> Option<u32>
-        ensures { Finds (ShareDate self.year self.number holidays.now) result }
+    pub fn share_date(&self) -> Option<u32>
+        ensures { Finds (ShareDate self.now.month.year self.now.month.number self.now.holidays.now) result }
     {
-        self.latest_business_day(self.third_friday(), holidays)
+        self.latest_business_day(self.third_friday())
     }
 
     // The third last business day.
-    pub fn bond_date(self, holidays: &[u32]) -> Option<u32>
-        ensures { Finds (BondDate self.year self.number holidays.now) result }
+    pub fn bond_date(&self) -> Option<u32>
+        ensures { Finds (BondDate self.now.month.year self.now.month.number self.now.holidays.now) result }
     {
-        // the business days that come after the one that is looked at
-        let mut later: u32 = 0;
-        for day in (1..=self.days()).rev() {
-            if self.is_business(day, holidays) {
-                if later == 2 {
-                    return Some(day);
-                }
-                later += 1;
-            }
-        }
-        None
+        (1..=self.month.days())
+            .rev()
+            .filter(|day| self.is_business(*day))
+            .nth(2)
     }
 
     // The latest business day that is not after the limit.
-    fn latest_business_day(self, limit: u32, holidays: &[u32]) -> Option<u32>
-        requires { limit ≤ month_length self.year self.number }
-        ensures { Finds (LatestBusiness self.year self.number holidays.now limit) result }
+    fn latest_business_day(&self, limit: u32) -> Option<u32>
+        requires { limit ≤ month_length self.now.month.year self.now.month.number }
+        ensures { Finds (LatestBusiness self.now.month.year self.now.month.number self.now.holidays.now limit) result }
     {
-        for day in (1..=limit).rev() {
-            if self.is_business(day, holidays) {
-                return Some(day);
-            }
-        }
-        None
+        (1..=limit).rev().find(|day| self.is_business(*day))
     }
-}
-
-fn is_listed(day: u32, holidays: &[u32]) -> bool
-    ensures { result ≡ listed day holidays.now }
-{
-    holidays.contains(&day)
 }

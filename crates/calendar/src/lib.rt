@@ -4,59 +4,36 @@
 mod business;
 mod month;
 
-ghost use Rattle.std.specs.Prelude.{◌≡◌, MatchResult};
-ghost use Rattle.measures.specs.declared.refusal.Refusal.TheVariants.{FigureOutOfRange};
-ghost use Rattle.calendar.specs.Expiry.{BondDate, InRange, ShareDate, Tells};
+ghost use Rattle.calendar.specs.Expiry.{BondDate, ShareDate, Tells};
 
+use business::Days;
 use measures::Refusal;
-use month::Month;
-
-const MOST_HOLIDAYS: usize = 31;
 
 // The expiry date of options on shares: the third Friday of the month, or where that is a holiday the business day before it.
 pub fn shares(year: u32, month: u32, holidays: &[u32]) -> Result<u32, Refusal>
     ensures { Tells year month holidays.now (ShareDate year month holidays.now) result }
 {
-    let month = read(year, month, holidays)?;
-    match month.share_date(holidays) {
-        Some(day) => Ok(day),
-        None => Err(Refusal::FigureOutOfRange),
-    }
+    Days::read(year, month, holidays)?
+        .share_date()
+        .ok_or(Refusal::FigureOutOfRange)
 }
 
 // The expiry date of options on bonds: the third last business day of the month.
 pub fn bonds(year: u32, month: u32, holidays: &[u32]) -> Result<u32, Refusal>
     ensures { Tells year month holidays.now (BondDate year month holidays.now) result }
 {
-    let month = read(year, month, holidays)?;
-    match month.bond_date(holidays) {
-        Some(day) => Ok(day),
-        None => Err(Refusal::FigureOutOfRange),
-    }
-}
-
-// The month, where it and its holidays are in range.
-fn read(year: u32, number: u32, holidays: &[u32]) -> Result<Month, Refusal>
-    ensures { MatchResult result
-        (λ m. InRange year number holidays.now × (m.year ≡ year) × (m.number ≡ number))
-        (λ why. (why ≡ FigureOutOfRange) × (InRange year number holidays.now → ⊥)) }
-{
-    match Month::new(year, number) {
-        Some(month) if holidays.len() <= MOST_HOLIDAYS && month.holds_all(holidays) => Ok(month),
-        _ => Err(Refusal::FigureOutOfRange),
-    }
+    Days::read(year, month, holidays)?
+        .bond_date()
+        .ok_or(Refusal::FigureOutOfRange)
 }
 
 #[cfg(test)]
 mod tests {
     use super::*;
 
-    // The number of the refusal, or 0.
-    fn refused(answer: Result<u32, Refusal>) -> u8 {
-        match answer {
-            Ok(_) => 0,
-            Err(why) => why.number(),
-        }
+    // The number of the refusal, if it is one.
+    fn refused(answer: Result<u32, Refusal>) -> Option<u8> {
+        answer.err().map(|why| why.number())
     }
 
     #[test]
@@ -68,13 +45,12 @@ mod tests {
     // The weekday is Sakamoto's, with Sunday as 0.
     #[test]
     fn every_third_friday(rt: HostRuntime) {
-        let shifts: [u8; 12] = [0, 3, 2, 5, 0, 3, 5, 1, 4, 6, 2, 4];
+        let shifts: [u32; 12] = [0, 3, 2, 5, 0, 3, 5, 1, 4, 6, 2, 4];
         for year in 2000..2100 {
-            for month in 1..13 {
+            for (month, shift) in (1..13).zip(shifts) {
                 let day = shares(year, month, &[]).unwrap_or(0);
                 assert!(rt; 15 <= day && day <= 21);
                 let years = if month < 3 { year - 1 } else { year };
-                let shift = shifts[month as usize - 1] as u32;
                 assert_eq!(rt;
                     (years + years / 4 - years / 100 + years / 400 + shift + day) % 7,
                     5
@@ -86,13 +62,13 @@ mod tests {
     #[test]
     fn out_of_range(rt: HostRuntime) {
         for (year, month) in [(1999, 12), (2100, 1), (2017, 0), (2017, 13)] {
-            assert_eq!(rt; refused(shares(year, month, &[])), 2);
-            assert_eq!(rt; refused(bonds(year, month, &[])), 2);
+            assert_eq!(rt; refused(shares(year, month, &[])), Some(2));
+            assert_eq!(rt; refused(bonds(year, month, &[])), Some(2));
         }
-        assert_eq!(rt; refused(shares(2017, 2, &[0])), 2);
-        assert_eq!(rt; refused(bonds(2017, 2, &[30])), 2);
-        assert_eq!(rt; refused(bonds(2017, 2, &[1; 32])), 2);
-        assert_eq!(rt; refused(bonds(2017, 2, &[1; 31])), 0);
+        assert_eq!(rt; refused(shares(2017, 2, &[0])), Some(2));
+        assert_eq!(rt; refused(bonds(2017, 2, &[30])), Some(2));
+        assert_eq!(rt; refused(bonds(2017, 2, &[1; 32])), Some(2));
+        assert_eq!(rt; refused(bonds(2017, 2, &[1; 31])), None);
     }
 
     #[test]
@@ -105,19 +81,15 @@ mod tests {
 
     // Every day up to the last as a holiday, the last more than once.
     fn up_to(last: u32) -> [u32; 31] {
-        let mut days = [last; 31];
-        for place in 0..31 {
-            days[place] = last.min(place as u32 + 1);
-        }
-        days
+        std::array::from_fn(|place| last.min(place as u32 + 1))
     }
 
     #[test]
     fn no_day_left(rt: HostRuntime) {
-        assert_eq!(rt; refused(shares(2017, 2, &up_to(28))), 2);
-        assert_eq!(rt; refused(bonds(2017, 2, &up_to(28))), 2);
-        assert_eq!(rt; refused(shares(2017, 2, &up_to(17))), 2);
-        assert_eq!(rt; refused(bonds(2017, 2, &up_to(24))), 2);
+        assert_eq!(rt; refused(shares(2017, 2, &up_to(28))), Some(2));
+        assert_eq!(rt; refused(bonds(2017, 2, &up_to(28))), Some(2));
+        assert_eq!(rt; refused(shares(2017, 2, &up_to(17))), Some(2));
+        assert_eq!(rt; refused(bonds(2017, 2, &up_to(24))), Some(2));
         assert_eq!(rt; bonds(2017, 2, &up_to(23)).ok(), Some(24));
     }
 }

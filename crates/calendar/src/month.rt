@@ -1,25 +1,21 @@
-// A month of the calendar: how long it is, and on which weekdays its days fall.
-ghost use Rattle.std.specs.Prelude.{◌≡◌, ◌+◌, ◌-◌, ◌%◌, ◌<◌, ◌≤◌, MatchOption};
-ghost use Rattle.calendar.specs.Days.{days_of_months, days_of_years, InCalendar, InMonth, leap, month_length, weekday};
-ghost use Rattle.calendar.specs.Expiry.{The, ThirdFriday};
+// A month of the calendar: how long it is, and on which weekday it begins.
+ghost use Rattle.std.specs.Prelude.{◌≡◌, ◌-◌, ◌≤◌, All, Decides, MatchOption};
+ghost use Rattle.calendar.specs.Days.{days_of_months, days_of_years, InCalendar, InMonth, leap, month_length, month_lengths, weekday};
 
 const FIRST_YEAR: u32 = 2000;
 
 const LAST_YEAR: u32 = 2099;
 
 // Monday is 0, and so on to Sunday, 6.
-const FRIDAY: u32 = 4;
+pub const FRIDAY: u32 = 4;
 
 pub const SATURDAY: u32 = 5;
 
-#[derive(Clone, Copy)]
+#[derive(Clone, Copy, Debug, PartialEq, Eq)]
 pub struct Month {
     year: u32,
     number: u32,
-    // the weekday of the first day
-    first: u32,
     ghost known: { InCalendar year number },
-    ghost begins: { first ≡ weekday year number 1 },
 }
 
 impl Month {
@@ -27,88 +23,70 @@ impl Month {
     pub fn new(year: u32, number: u32) -> Option<Month>
         ensures { MatchOption result (InCalendar year number → ⊥) (λ m. (m.year ≡ year) × (m.number ≡ number)) }
     {
-        if year < FIRST_YEAR || year > LAST_YEAR || number < 1 || number > 12 {
-            return None;
+        if (FIRST_YEAR..=LAST_YEAR).contains(&year) && (1..=12).contains(&number) {
+            Some(Month { year, number })
+        } else {
+            None
         }
-        Some(Month {
-            year,
-            number,
-            first: first_weekday(year, number),
-        })
+    }
+
+    fn is_leap(self) -> bool
+        ensures { result ≡ leap self.year }
+    {
+        self.year % 4 == 0 && (self.year % 100 != 0 || self.year % 400 == 0)
+    }
+
+    // The lengths of the months of its year, January first.
+    fn lengths(self) -> [u32; 12]
+        ensures { result ≡ month_lengths self.year }
+    {
+        let february = if self.is_leap() { 29 } else { 28 };
+        [31, february, 31, 30, 31, 30, 31, 31, 30, 31, 30, 31]
     }
 
     // How many days it has.
     pub fn days(self) -> u32
         ensures { result ≡ month_length self.year self.number }
     {
-        month_length(self.year, self.number)
+        self.lengths()[self.number as usize - 1]
     }
 
-    pub fn weekday(self, day: u32) -> u32
-        requires { InMonth self.year self.number day }
-        ensures { result ≡ weekday self.year self.number day }
+    // Whether each of the holidays is a day of the month.
+    pub fn holds_all(self, holidays: &[u32]) -> bool
+        ensures { Decides result (All (InMonth self.year self.number) holidays.now) }
     {
-        (self.first + day - 1) % 7
+        holidays.iter().all(|day| self.holds(*day))
     }
 
-    pub fn third_friday(self) -> u32
-        ensures { The (ThirdFriday self.year self.number) result }
+    // Whether it is a day of the month.
+    fn holds(self, day: u32) -> bool
+        ensures { Decides result (InMonth self.year self.number day) }
     {
-        friday_of_third_week(self.first)
+        (1..=self.days()).contains(&day)
     }
-}
 
-// The Friday of the days 15 to 21, by the weekday of the first.
-fn friday_of_third_week(first: u32) -> u32
-    requires { first < 7 }
-    ensures { (15 ≤ result) × (result ≤ 21) × ((first + (result - 1)) % 7 ≡ 4) }
-{
-    15 + (FRIDAY + 7 - first) % 7
-}
-
-// The weekday of the first of the month; 1 January 2000 was a Saturday.
-fn first_weekday(year: u32, month: u32) -> u32
-    requires { InCalendar year month }
-    ensures { result ≡ weekday year month 1 }
-{
-    (SATURDAY + days_before_year(year) + days_before_month(year, month)) % 7
-}
-
-fn is_leap(year: u32) -> bool
-    ensures { result ≡ leap year }
-{
-    year % 4 == 0 && (year % 100 != 0 || year % 400 == 0)
-}
-
-// How many days the month has.
-fn month_length(year: u32, month: u32) -> u32
-    requires { (1 ≤ month) × (month ≤ 12) }
-    ensures { result ≡ month_length year month }
-{
-    match month {
-        2 => { if is_leap(year) { 29 } else { 28 } }
-        4 | 6 | 9 | 11 => 30,
-        _ => 31,
+    // The weekday of its first day; 1 January 2000 was a Saturday.
+    #[tactic(auto, using(crate::proofs::Lengths::days_of_years_is, crate::proofs::Lengths::days_of_months_most))]
+    pub fn first_weekday(self) -> u32
+        ensures { result ≡ weekday self.year self.number 1 }
+    {
+        (SATURDAY + self.days_before_year() + self.days_before()) % 7
     }
-}
 
-// The days from 1 January 2000 to 1 January of the year: each fourth year from 2000 on has one day more.
-fn days_before_year(year: u32) -> u32
-    requires { (2000 ≤ year) × (year ≤ 2099) }
-    ensures { result ≡ days_of_years (year - 2000) }
-{
-    let years = year - FIRST_YEAR;
-    365 * years + (years + 3) / 4
-}
-
-// The days from 1 January to the first of the month.
-fn days_before_month(year: u32, month: u32) -> u32
-    requires { (1 ≤ month) × (month ≤ 12) }
-    ensures { result ≡ days_of_months year month }
-{
-    let mut days = 0;
-    for earlier in 1..month {
-        days += month_length(year, earlier);
+    // The days from 1 January to its first.
+    #[tactic(auto, using(crate::proofs::Lengths::days_of_months_most))]
+    fn days_before(self) -> u32
+        ensures { result ≡ days_of_months self.year self.number }
+    {
+        self.lengths()[..self.number as usize - 1].iter().sum()
     }
-    days
+
+    // The days from 1 January 2000 to 1 January of its year: each fourth year from 2000 on has one day more.
+    #[tactic(auto, using(crate::proofs::Lengths::days_of_years_is))]
+    fn days_before_year(self) -> u32
+        ensures { result ≡ days_of_years (self.year - 2000) }
+    {
+        let years = self.year - FIRST_YEAR;
+        365 * years + (years + 3) / 4
+    }
 }
