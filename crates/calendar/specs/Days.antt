@@ -1,16 +1,16 @@
 -- The Gregorian calendar from the year 2000 on: lengths of years and months, weekdays, and how many days pass a test.
-use Rattle.std.specs.Prelude.{ℕ, zero, suc, ◌+◌, ◌-◌, ◌%◌, ◌≤◌, Bool, cond, not, ◌&&◌, ◌||◌, List, [], ◌∷◌, take, sum, ◌==◌, slice_index}
+use Rattle.std.specs.Prelude.{ℕ, zero, suc, ◌+◌, ◌-◌, ◌%◌, ◌≤◌, Bool, if◌then◌else◌, not, ◌&&◌, ◌||◌, List, [], ◌∷◌, take, sum, ◌==◌, slice_index}
 
 -- every fourth year, but of the full hundreds only every fourth
 abbrev pub leap : ℕ → Bool
 leap y = y % 4 == 0 && (not (y % 100 == 0) || y % 400 == 0)
 
 abbrev pub year_length : ℕ → ℕ
-year_length y = cond (leap y) 366 365
+year_length y = if leap y then 366 else 365
 
 -- the lengths of the months of a year, January first
 abbrev pub month_lengths : ℕ → List ℕ
-month_lengths y = 31 ∷ cond (leap y) 29 28 ∷ 31 ∷ 30 ∷ 31 ∷ 30 ∷ 31 ∷ 31 ∷ 30 ∷ 31 ∷ 30 ∷ 31 ∷ []
+month_lengths y = 31 ∷ (if leap y then 29 else 28) ∷ 31 ∷ 30 ∷ 31 ∷ 30 ∷ 31 ∷ 31 ∷ 30 ∷ 31 ∷ 30 ∷ 31 ∷ []
 
 -- the months that the calendar is for
 abbrev pub InCalendar : ℕ → ℕ → Type 0
@@ -45,4 +45,4 @@ friday y m d = weekday y m d == 4
 -- how many of the n days that follow the day a pass the test
 abbrev pub count : (ℕ → Bool) → ℕ → ℕ → ℕ
 count p a zero = 0
-count p a (suc n) = count p a n + cond (p (a + suc n)) 1 0
+count p a (suc n) = count p a n + (if p (a + suc n) then 1 else 0)

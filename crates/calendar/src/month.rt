@@ -1,5 +1,5 @@
 // A month of the calendar: how long it is, and on which weekday it begins.
-ghost use Rattle.std.specs.Prelude.{◌≡◌, ◌-◌, ◌≤◌, All, Decides, MatchOption};
+ghost use Rattle.std.specs.Prelude.{◌≡◌, ◌-◌, ◌≤◌, ◌↔◌, All, IsTrue, MatchOption};
 ghost use Rattle.calendar.specs.Days.{days_of_months, days_of_years, InCalendar, InMonth, leap, month_length, month_lengths, weekday};
 
 const FIRST_YEAR: u32 = 2000;
@@ -53,14 +53,14 @@ impl Month {
 
     // Whether each of the holidays is a day of the month.
     pub fn holds_all(self, holidays: &[u32]) -> bool
-        ensures { Decides result (All (InMonth self.year self.number) holidays.now) }
+        ensures { IsTrue result ↔ All (InMonth self.year self.number) holidays.now }
     {
         holidays.iter().all(|day| self.holds(*day))
     }
 
     // Whether it is a day of the month.
     fn holds(self, day: u32) -> bool
-        ensures { Decides result (InMonth self.year self.number day) }
+        ensures { IsTrue result ↔ InMonth self.year self.number day }
     {
         (1..=self.days()).contains(&day)
     }
