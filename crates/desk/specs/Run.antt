@@ -1,10 +1,9 @@
 -- A run of the console: what it wrote, for all that it heard so far.
-use Rattle.std.specs.Prelude.{◌≡◌, ℕ, Bool, true, false, if◌then◌else◌, ◌||◌, List, [], ◌∷◌, ◌++◌, length, Some, vec_items, Option, ◌≢◌, nat_le}
+use Rattle.std.specs.Prelude.{◌≡◌, ℕ, Bool, true, false, if◌then◌else◌, ◌||◌, List, [], ◌∷◌, ◌++◌, length, Some, Option, ◌≢◌, nat_le}
 use Rattle.desk.specs.Console.{Replies, longest_line}
 use Rattle.desk.specs.State.{first_draw}
 use Rattle.desk.specs.declared.answer.Answer.{Answer}
 use Rattle.desk.specs.declared.answer.Answer.TheVariants.{Error}
-use Rattle.desk.specs.declared.run.Console.{Console}
 use Rattle.desk.specs.declared.state.Desk.{Desk}
 
 -- what the console keeps: the line that is not at its end yet, whether an error was told, and the desk
@@ -12,9 +11,6 @@ pub record Kept : Type 0 where
   pub line : List ℕ
   pub bad : Bool
   pub desk : Desk
-
-abbrev pub kept_by : Console → Kept
-kept_by c = record { line = vec_items c.line; bad = c.faulty; desk = c.desk }
 
 -- at the start
 abbrev pub nothing_heard : Kept

@@ -1,13 +1,14 @@
 // A run of the console over an input that comes in parts.
 ghost use Rattle.std.specs.Prelude.{◌≡◌, ℕ, List, [], ◌∷◌, ◌++◌, IfOk, string_bytes, Option as AnyOption, OnOk};
 ghost use Rattle.desk.specs.Console.{Replies};
-ghost use Rattle.desk.specs.Run.{Heard, Hears, Ran, after_line, is_error, kept_by, nothing_heard, with_byte};
+ghost use Rattle.desk.specs.Run.{Heard, Hears, Ran, after_line, is_error, Kept, nothing_heard, with_byte};
 ghost use Rattle.desk.specs.declared.answer.Answer.{Answer as AnyAnswer};
 
 use crate::answer::Answer;
 use crate::console::LONGEST_LINE;
 use crate::state::Desk;
 use std::alloc::{AllocError, Global};
+use std::marker::Model;
 
 // The line that is not at its end yet, whether an error was told, and the desk behind it.
 #[derive(Drop)]
@@ -25,10 +26,17 @@ fn tells_error(answer: Option<Answer>) -> bool
     matches!(answer, Some(Answer::Error(_)))
 }
 
+// What it keeps, whatever it allocates on.
+impl Model for Console {
+    ghost Value = { Kept };
+
+    ghost view = { λ c. record { line = c.line.items; bad = c.faulty; desk = c.desk } };
+}
+
 impl Console {
     // A console that has heard nothing yet.
     pub fn open(heap: Global) -> Console
-        ensures { kept_by result ≡ nothing_heard }
+        ensures { result ≡ nothing_heard }
     {
         Console {
             heap,
@@ -40,7 +48,7 @@ impl Console {
 
     // One byte more of the line.
     fn keep(&mut self, b: u8) -> Result<(), AllocError>
-        ensures { OnOk result (kept_by self.new ≡ with_byte (kept_by self.old) b) }
+        ensures { OnOk result (self.new ≡ with_byte self.old b) }
     {
         if self.line.len() <= LONGEST_LINE {
             self.line.push(b)?;
@@ -50,7 +58,7 @@ impl Console {
 
     // Answers the line, and tells whether an error was told so far.
     fn end_line(&mut self, out: &mut String) -> Result<bool, AllocError>
-        ensures { IfOk result (λ bad. (o : AnyOption AnyAnswer) × (text : List ℕ) × Replies self.old.line.items self.old.desk o self.new.desk text × (string_bytes out.new ≡ string_bytes out.old ++ text) × (kept_by self.new ≡ after_line (kept_by self.old) o self.new.desk) × (bad ≡ self.new.faulty)) }
+        ensures { IfOk result (λ bad. (o : AnyOption AnyAnswer) × (text : List ℕ) × Replies self.old.line self.old.desk o self.new.desk text × (string_bytes out.new ≡ string_bytes out.old ++ text) × (self.new ≡ after_line self.old o self.new.desk) × (bad ≡ self.new.bad)) }
     {
         let answer = self.desk.reply(self.heap, &self.line, out)?;
         self.line.clear();
@@ -60,7 +68,7 @@ impl Console {
 
     // Hears the next byte of the input, and answers the line where it ends it.
     fn hear_byte(&mut self, b: u8, out: &mut String) -> Result<(), AllocError>
-        ensures { OnOk result ((text : List ℕ) × (string_bytes out.new ≡ string_bytes out.old ++ text) × Hears (kept_by self.old) (b ∷ []) (kept_by self.new) text) }
+        ensures { OnOk result ((text : List ℕ) × (string_bytes out.new ≡ string_bytes out.old ++ text) × Hears self.old (b ∷ []) self.new text) }
     {
         if b == b'\n' {
             self.end_line(out)?;
@@ -72,7 +80,7 @@ impl Console {
 
     // Hears the next bytes of the input, and answers each line that they end.
     pub fn hear(&mut self, bytes: &[u8], out: &mut String) -> Result<(), AllocError>
-        ensures { OnOk result ((text : List ℕ) × (string_bytes out.new ≡ string_bytes out.old ++ text) × Hears (kept_by self.old) bytes.now (kept_by self.new) text) }
+        ensures { OnOk result ((text : List ℕ) × (string_bytes out.new ≡ string_bytes out.old ++ text) × Hears self.old bytes.now self.new text) }
     {
         for b in bytes {
             self.hear_byte(*b, out)?;
@@ -82,7 +90,7 @@ impl Console {
 
     // Ends the run: answers a last line that has no end, and tells whether an error was told.
     pub fn close(mut self, out: &mut String) -> Result<bool, AllocError>
-        ensures { IfOk result (λ bad. (text : List ℕ) × (string_bytes out.new ≡ string_bytes out.old ++ text) × ((input before : List ℕ) → Heard input (kept_by self) before → Ran input (before ++ text) bad)) }
+        ensures { IfOk result (λ bad. (text : List ℕ) × (string_bytes out.new ≡ string_bytes out.old ++ text) × ((input before : List ℕ) → Heard input self before → Ran input (before ++ text) bad)) }
     {
         self.end_line(out)
     }
