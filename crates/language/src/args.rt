@@ -75,8 +75,8 @@ pub fn next_tariff(args: &[Token]) -> Option<(Delivered, &[Token])>
     ensures { MatchOption result ((t : AnyTariff) (ts : List AnyToken) → args.now ≢ Number (year_of t) ∷ ts) (λ p. args.now ≡ Number (year_of p.0) ∷ p.1.now) }
 {
     match next_number(args) {
-        Some((2017, rest)) => Some((Delivered::Of2017(Tariff2017), rest)),
-        Some((1996, rest)) => Some((Delivered::Of1996(Tariff1996), rest)),
+        Some((2017, rest)) => Some((Delivered::Of2017(Tariff2017 {}), rest)),
+        Some((1996, rest)) => Some((Delivered::Of1996(Tariff1996 {}), rest)),
         _ => None,
     }
 }
