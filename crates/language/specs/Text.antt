@@ -1,5 +1,5 @@
 -- How a line of the console is taken apart.
-use Rattle.std.specs.Prelude.{◌≡◌, ℕ, ◌+◌, ◌-◌, ◌*◌, ◌^◌, ◌<◌, ◌≤◌, Bool, true, cond, List, [], ◌∷◌, ◌++◌, map, length, codes, ◌≢◌, nat_le, nat_lt}
+use Rattle.std.specs.Prelude.{◌≡◌, ℕ, ◌+◌, ◌-◌, ◌*◌, ◌^◌, ◌<◌, ◌≤◌, Bool, true, cond, List, [], ◌∷◌, ◌++◌, map, length, codes, MatchResult, Result, ◌≢◌, nat_le, nat_lt}
 use Rattle.std.specs.Str.{all_ascii_digits}
 use Rattle.language.specs.declared.token.Token.{Token}
 use Rattle.language.specs.declared.token.Token.TheVariants.{Number, TooLarge, Name, Known, Unknown}
@@ -31,6 +31,10 @@ named Expiry = codes "EXPIRY"
 named Lot = codes "LOT"
 named Draw = codes "DRAW"
 named Award = codes "AWARD"
+
+-- r is what the text spells, and an error where it spells nothing
+abbrev pub ParsesBy : {X E : Type 0} → (X → List ℕ) → List ℕ → Result X E → Type 0
+ParsesBy {X} spelling text r = MatchResult r (λ x. text ≡ spelling x) (λ _. (x : X) → text ≢ spelling x)
 
 -- how the command is written, for people
 abbrev pub usage : Verb → List ℕ

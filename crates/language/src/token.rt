@@ -4,7 +4,7 @@ ghost use Rattle.language.specs.Text.{Means, Numeral};
 
 use crate::word::{Verb, Word};
 
-#[derive(Clone, Copy)]
+#[derive(Clone, Copy, Debug, PartialEq, Eq)]
 pub enum Token {
     Number(u64),
     // a number above 2^64 - 1
@@ -18,12 +18,7 @@ pub enum Token {
 fn is_numeral(text: &[u8]) -> bool
     ensures { Decides result (Numeral text.now) }
 {
-    for b in text {
-        if !b.is_ascii_digit() {
-            return false;
-        }
-    }
-    !text.is_empty()
+    !text.is_empty() && text.iter().all(|b| b.is_ascii_digit())
 }
 
 impl Token {
@@ -35,17 +30,11 @@ impl Token {
             return Token::Unknown;
         };
         if is_numeral(text) {
-            return match word.parse::<u64>() {
-                Ok(n) => Token::Number(n),
-                Err(_) => Token::TooLarge,
-            };
+            return word.parse().map_or(Token::TooLarge, Token::Number);
         }
-        if let Some(verb) = Verb::read(word) {
+        if let Ok(verb) = word.parse() {
             return Token::Name(verb);
         }
-        match Word::read(word) {
-            Some(known) => Token::Known(known),
-            None => Token::Unknown,
-        }
+        word.parse().map_or(Token::Unknown, Token::Known)
     }
 }
