@@ -2,7 +2,7 @@
 ghost use Rattle.std.specs.Prelude.{IfOk};
 ghost use Rattle.language.specs.Language.{Reads, award_words, draw_words, drawing_words};
 
-use crate::args::{at_end, last_number, next_number, numbers};
+use crate::args::{at_end, last, next, numbers};
 use crate::token::Token;
 use crate::word::Word;
 use std::alloc::{AllocError, Global};
@@ -34,12 +34,12 @@ fn read_drawing(args: &[Token]) -> Option<Drawing>
     ensures { Reads drawing_words args.now result }
 {
     match args.split_first() {
-        Some((Token::Known(Word::Wheel), rest)) => Some(Drawing::Wheel(last_number(rest)?)),
+        Some((Token::Known(Word::Wheel), rest)) => Some(Drawing::Wheel(last(rest)?)),
         Some((Token::Known(Word::ProRata), rest)) => {
             at_end(rest)?;
             Some(Drawing::ProRata)
         }
-        Some((Token::Known(Word::Lottery), rest)) => Some(Drawing::Lottery(last_number(rest)?)),
+        Some((Token::Known(Word::Lottery), rest)) => Some(Drawing::Lottery(last(rest)?)),
         _ => None,
     }
 }
@@ -49,7 +49,7 @@ pub fn read_draw(args: &[Token]) -> Option<DrawArgs>
     ensures { Reads draw_words args.now result }
 {
     if let Some((Token::Known(Word::Rounds), args)) = args.split_first() {
-        let (r, args) = next_number(args)?;
+        let (r, args) = next(args)?;
         let drawing = read_drawing(args)?;
         return Some(DrawArgs {
             rounds: Some(r),
@@ -67,7 +67,7 @@ pub fn read_draw(args: &[Token]) -> Option<DrawArgs>
 pub fn read_award(heap: Global, args: &[Token]) -> Result<Option<AwardArgs>, AllocError>
     ensures { IfOk result (λ o. Reads award_words args.now o) }
 {
-    let Some((demand, args)) = next_number(args) else {
+    let Some((demand, args)) = next(args) else {
         return Ok(None);
     };
     let Some(claims) = numbers(heap, args)? else {

@@ -2,9 +2,7 @@
 ghost use Rattle.std.specs.Prelude.{IfOk};
 ghost use Rattle.language.specs.Language.{Reads, expiry_words, lot_words};
 
-use crate::args::{
-    Market, last_number, next_class, next_market, next_number, next_tariff, numbers,
-};
+use crate::args::{Market, last, next, numbers};
 use crate::token::Token;
 use std::alloc::{AllocError, Global};
 use tariff::{Class, Delivered};
@@ -32,13 +30,13 @@ pub struct LotArgs {
 pub fn read_expiry(heap: Global, args: &[Token]) -> Result<Option<ExpiryArgs>, AllocError>
     ensures { IfOk result (λ o. Reads expiry_words args.now o) }
 {
-    let Some((market, args)) = next_market(args) else {
+    let Some((market, args)) = next(args) else {
         return Ok(None);
     };
-    let Some((year, args)) = next_number(args) else {
+    let Some((year, args)) = next(args) else {
         return Ok(None);
     };
-    let Some((month, args)) = next_number(args) else {
+    let Some((month, args)) = next(args) else {
         return Ok(None);
     };
     let Some(holidays) = numbers(heap, args)? else {
@@ -56,13 +54,13 @@ pub fn read_expiry(heap: Global, args: &[Token]) -> Result<Option<ExpiryArgs>, A
 pub fn read_lot(args: &[Token]) -> Option<LotArgs>
     ensures { Reads lot_words args.now result }
 {
-    let (tariff, args) = next_tariff(args)?;
-    let (class, args) = next_class(args)?;
-    let (strike, args) = next_number(args)?;
-    let (basis, args) = next_number(args)?;
-    let (spot, args) = next_number(args)?;
-    let (percentage, args) = next_number(args)?;
-    let size = last_number(args)?;
+    let (tariff, args) = next(args)?;
+    let (class, args) = next(args)?;
+    let (strike, args) = next(args)?;
+    let (basis, args) = next(args)?;
+    let (spot, args) = next(args)?;
+    let (percentage, args) = next(args)?;
+    let size = last(args)?;
     Some(LotArgs {
         tariff,
         class,
