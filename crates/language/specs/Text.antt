@@ -8,6 +8,10 @@ use Rattle.language.specs.declared.word.Verb.TheVariants.{Expiry, Lot, Draw, Awa
 use Rattle.language.specs.declared.word.Word.{Word}
 use Rattle.language.specs.declared.word.Word.TheVariants.{Shares, Bonds, Call, Put, Wheel, ProRata, Lottery, Rounds}
 
+-- r is what is written so, and an error where nothing is
+abbrev pub Parses : {X Y E : Type 0} → (X → Y) → Y → Result X E → Type 0
+Parses {X} written y r = MatchResult r (λ x. y ≡ written x) (λ _. (x : X) → y ≢ written x)
+
 -- bytes up to the space part words
 abbrev pub blank : ℕ → Bool
 blank b = nat_le b 32
@@ -31,10 +35,6 @@ named Expiry = codes "EXPIRY"
 named Lot = codes "LOT"
 named Draw = codes "DRAW"
 named Award = codes "AWARD"
-
--- r is what the text spells, and an error where it spells nothing
-abbrev pub ParsesBy : {X E : Type 0} → (X → List ℕ) → List ℕ → Result X E → Type 0
-ParsesBy {X} spelling text r = MatchResult r (λ x. text ≡ spelling x) (λ _. (x : X) → text ≢ spelling x)
 
 -- how the command is written, for people
 abbrev pub usage : Verb → List ℕ

@@ -10,7 +10,7 @@ use crate::token::Token;
 use crate::word::Verb;
 use std::alloc::{AllocError, Global};
 
-#[derive(Drop)]
+#[derive(Debug, Drop)]
 pub enum Command {
     Expiry(ExpiryArgs),
     Lot(LotArgs),

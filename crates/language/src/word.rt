@@ -1,6 +1,6 @@
 // The words of the console's language: those that name a command, and those that stand among its figures.
 ghost use Rattle.std.specs.Prelude.{◌≡◌, Some, codes};
-ghost use Rattle.language.specs.Text.{ParsesBy, named, spelled, usage};
+ghost use Rattle.language.specs.Text.{Parses, named, spelled, usage};
 
 use std::error::Error;
 use std::fmt;
@@ -26,7 +26,7 @@ pub enum Word {
     Rounds,
 }
 
-// The text is none of the words.
+// The word, or its token, stands for nothing of the kind.
 #[derive(Clone, Copy, Debug, PartialEq, Eq)]
 pub struct UnknownWord;
 
@@ -44,7 +44,7 @@ impl Error for UnknownWord {}
 impl FromStr for Verb {
     type Err = UnknownWord;
 
-    ghost from_str_gives = { ParsesBy named };
+    ghost from_str_gives = { Parses named };
 
     fn from_str(text: &str) -> Result<Verb, UnknownWord> {
         match text {
@@ -75,7 +75,7 @@ impl Verb {
 impl FromStr for Word {
     type Err = UnknownWord;
 
-    ghost from_str_gives = { ParsesBy spelled };
+    ghost from_str_gives = { Parses spelled };
 
     fn from_str(text: &str) -> Result<Word, UnknownWord> {
         match text {
