@@ -1,17 +1,19 @@
 -- The console's numbers are those that `parse` reads.
-use Rattle.std.proofs.Common.{◌≡◌, ℕ, ◌^◌, ◌<◌, true, List, Ok, Err, IsUtf8, MatchResult, Result, sym, refl, subst, arith, rules}
+use Rattle.std.proofs.Common.{◌≡◌, ℕ, ◌^◌, ◌<◌, true, List, Ok, Err, IsUtf8, MatchResult, Result, nat_lt, sym, subst, arith, rules}
 use Rattle.std.specs.Str.Parse.{ParsesUnsigned}
 use Rattle.std.specs.Str.{all_ascii_digits}
 use Rattle.std.proofs.lemmas.Str.Parse.{IsNumeralModel, numerals_by_fold, parse_digits}
+use Rattle.std.proofs.lemmas.Bool.Decides.{nat_tests}
+use Rattle.std.proofs.lemmas.List.Sums.{AllPass-from_list_all}
 use Rattle.std.proofs.lemmas.Str.{IsUtf8-from_ascii}
+use Rattle.std.proofs.lemmas.Str.Ascii.{IsAscii-from_all}
+use Rattle.std.specs.List.{list_all}
 use Rattle.std.proofs.lemmas.Fmt.{IsAscii-from_digits}
 use Rattle.language.specs.Text.{Means, Numeral, number_on, named, spelled}
 use Rattle.language.specs.declared.token.Token.{Token}
 use Rattle.language.specs.declared.token.Token.TheVariants.{Number, TooLarge}
 use Rattle.language.specs.declared.word.Verb.{Verb}
-use Rattle.language.specs.declared.word.Verb.TheVariants.{Expiry, Lot, Draw, Award}
 use Rattle.language.specs.declared.word.Word.{Word}
-use Rattle.language.specs.declared.word.Word.TheVariants.{Shares, Bonds, Call, Put, Wheel, ProRata, Lottery, Rounds}
 
 own : IsNumeralModel (λ ds. all_ascii_digits ds ≡ true) (number_on 0)
 own = numerals_by_fold _ (search rules) number_on (search rules)
@@ -20,23 +22,16 @@ own = numerals_by_fold _ (search rules) number_on (search rules)
 pub digits_utf8 : (bs : List ℕ) → all_ascii_digits bs ≡ true → IsUtf8 bs
 digits_utf8 bs h = IsUtf8-from_ascii bs (IsAscii-from_digits bs (own.to bs h))
 
+ascii_utf8 : (bs : List ℕ) → list_all (λ b. nat_lt b 128) bs ≡ true → IsUtf8 bs
+ascii_utf8 bs h =
+    let tested = AllPass-from_list_all (λ b. nat_lt b 128) bs h in
+    IsUtf8-from_ascii bs (IsAscii-from_all bs (λ k d l. let t = tested k d l in grind (arith, nat_tests)))
+
 pub verbs_utf8 : (v : Verb) → IsUtf8 (named v)
-unfolding lib.Utf8.encode
-verbs_utf8 Expiry = (named Expiry, (refl, refl))
-verbs_utf8 Lot = (named Lot, (refl, refl))
-verbs_utf8 Draw = (named Draw, (refl, refl))
-verbs_utf8 Award = (named Award, (refl, refl))
+verbs_utf8 v = ascii_utf8 _ (grind arith)
 
 pub words_utf8 : (w : Word) → IsUtf8 (spelled w)
-unfolding lib.Utf8.encode
-words_utf8 Shares = (spelled Shares, (refl, refl))
-words_utf8 Bonds = (spelled Bonds, (refl, refl))
-words_utf8 Call = (spelled Call, (refl, refl))
-words_utf8 Put = (spelled Put, (refl, refl))
-words_utf8 Wheel = (spelled Wheel, (refl, refl))
-words_utf8 ProRata = (spelled ProRata, (refl, refl))
-words_utf8 Lottery = (spelled Lottery, (refl, refl))
-words_utf8 Rounds = (spelled Rounds, (refl, refl))
+words_utf8 w = ascii_utf8 _ (grind arith)
 
 -- a numeral means the number that `parse` reads, and is too large where it reads none
 pub numeral_means : {E : Type 0} (bs : List ℕ) (r : Result ℕ E) (t : Token) → Numeral bs → ParsesUnsigned 64 10 bs r → MatchResult r (λ n. t ≡ Number n) (λ _. t ≡ TooLarge) → Means bs t
