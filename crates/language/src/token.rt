@@ -23,6 +23,7 @@ fn is_numeral(text: &[u8]) -> bool
 
 impl Token {
     // What the word means.
+    #[tactic(auto, using(crate::proofs::Numbers::numeral_means, crate::proofs::Numbers::unknown_unless_utf8))]
     pub fn read(text: &[u8]) -> Token
         ensures { Means text.now result }
     {
