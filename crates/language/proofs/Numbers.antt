@@ -24,10 +24,10 @@ ascii_utf8 bs h =
 -- digits, and the words of the language, are UTF-8: what is not means nothing
 pub unknown_unless_utf8 : (bs : List ℕ) → (IsUtf8 bs → ⊥) → Means bs Unknown
 unknown_unless_utf8 bs no_text = (
-    λ n. no_text (IsUtf8-from_ascii bs (IsAscii-from_digits bs (own.to bs n.1))),
-    λ v e. no_text (rw e (ascii_utf8 (named v) (grind arith))),
-    λ w e. no_text (rw e (ascii_utf8 (spelled w) (grind arith))),
-  )
+  λ n. no_text (IsUtf8-from_ascii bs (IsAscii-from_digits bs (own.to bs n.1))),
+  λ v e. no_text (rw e (ascii_utf8 (named v) (grind arith))),
+  λ w e. no_text (rw e (ascii_utf8 (spelled w) (grind arith))),
+)
 
 -- a numeral means the number that `parse` reads, and is too large where it reads none
 pub numeral_means : {E : Type 0} (bs : List ℕ) (r : Result ℕ E) (t : Token) → Numeral bs → ParsesUnsigned 64 10 bs r → MatchResult r (λ n. t ≡ Number n) (λ _. t ≡ TooLarge) → Means bs t

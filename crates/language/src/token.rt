@@ -1,5 +1,5 @@
 // What a word of a line is: a number, a word of the language, or neither.
-ghost use Rattle.std.specs.Prelude.{Decides};
+ghost use Rattle.std.specs.Prelude.{◌↔◌, IsTrue};
 ghost use Rattle.language.specs.Text.{Means, Numeral};
 
 use crate::word::{Verb, Word};
@@ -16,7 +16,7 @@ pub enum Token {
 
 // Whether the text is a decimal number: digits, and at least one.
 fn is_numeral(text: &[u8]) -> bool
-    ensures { Decides result (Numeral text.now) }
+    ensures { IsTrue result ↔ Numeral text.now }
 {
     !text.is_empty() && text.iter().all(|b| b.is_ascii_digit())
 }
