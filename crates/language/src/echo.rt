@@ -1,5 +1,5 @@
 // The words of a command, echoed before its answer, and what they mean.
-ghost use Rattle.std.specs.Prelude.{◌≡◌, ◌<◌, ◌∷◌, map, IfOk, OnOk};
+ghost use Rattle.std.specs.Prelude.{◌≡◌, ◌∷◌, map, IfOk, OnOk};
 ghost use Rattle.language.specs.Text.{Appends, Meant, echoed_on, printed, words};
 
 use crate::text::next_word;
