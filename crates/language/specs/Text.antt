@@ -1,5 +1,5 @@
 -- How a line of the console is taken apart.
-use Rattle.std.specs.Prelude.{◌≡◌, ℕ, ◌+◌, ◌-◌, ◌*◌, ◌^◌, ◌<◌, ◌≤◌, Bool, true, cond, List, [], ◌∷◌, ◌++◌, map, length, codes, ◌≢◌, nat_le, nat_lt}
+use Rattle.std.specs.Prelude.{◌≡◌, ℕ, ◌+◌, ◌-◌, ◌*◌, ◌^◌, ◌<◌, ◌≤◌, Bool, true, cond, List, [], ◌∷◌, ◌++◌, map, length, codes, MatchResult, Result, String, string_bytes, ◌≢◌, nat_le, nat_lt}
 use Rattle.std.specs.Str.{all_ascii_digits}
 use Rattle.language.specs.declared.token.Token.{Token}
 use Rattle.language.specs.declared.token.Token.TheVariants.{Number, TooLarge, Name, Known, Unknown}
@@ -7,6 +7,14 @@ use Rattle.language.specs.declared.word.Verb.{Verb}
 use Rattle.language.specs.declared.word.Verb.TheVariants.{Expiry, Lot, Draw, Award}
 use Rattle.language.specs.declared.word.Word.{Word}
 use Rattle.language.specs.declared.word.Word.TheVariants.{Shares, Bonds, Call, Put, Wheel, ProRata, Lottery, Rounds}
+
+-- r is what is written so, and an error where nothing is
+abbrev pub Parses : {X Y E : Type 0} → (X → Y) → Y → Result X E → Type 0
+Parses {X} written y r = MatchResult r (λ x. y ≡ written x) (λ _. (x : X) → y ≢ written x)
+
+-- the new string is the old one, and the text after it
+abbrev pub Appends : {A : Type 0} → String A → String A → List ℕ → Type 0
+Appends old new text = string_bytes new ≡ string_bytes old ++ text
 
 -- bytes up to the space part words
 abbrev pub blank : ℕ → Bool

@@ -10,7 +10,7 @@ use crate::token::Token;
 use crate::word::Verb;
 use std::alloc::{AllocError, Global};
 
-#[derive(Drop)]
+#[derive(Debug, Drop)]
 pub enum Command {
     Expiry(ExpiryArgs),
     Lot(LotArgs),
@@ -23,24 +23,11 @@ impl Command {
     pub fn read(heap: Global, verb: Verb, args: &[Token]) -> Result<Option<Command>, AllocError>
         ensures { IfOk result (λ o. Reads written (Name verb ∷ args.now) o) }
     {
-        let command = match verb {
-            Verb::Expiry => match read_expiry(heap, args)? {
-                Some(args) => Some(Command::Expiry(args)),
-                None => None,
-            },
-            Verb::Lot => match read_lot(args) {
-                Some(args) => Some(Command::Lot(args)),
-                None => None,
-            },
-            Verb::Draw => match read_draw(args) {
-                Some(args) => Some(Command::Draw(args)),
-                None => None,
-            },
-            Verb::Award => match read_award(heap, args)? {
-                Some(args) => Some(Command::Award(args)),
-                None => None,
-            },
-        };
-        Ok(command)
+        Ok(match verb {
+            Verb::Expiry => read_expiry(heap, args)?.map(Command::Expiry),
+            Verb::Lot => read_lot(args).map(Command::Lot),
+            Verb::Draw => read_draw(args).map(Command::Draw),
+            Verb::Award => read_award(heap, args)?.map(Command::Award),
+        })
     }
 }

@@ -2,12 +2,12 @@
 ghost use Rattle.std.specs.Prelude.{IfOk};
 ghost use Rattle.language.specs.Language.{Reads, award_words, draw_words, drawing_words};
 
-use crate::args::{at_end, last_number, next_number, numbers};
+use crate::args::numbers;
 use crate::token::Token;
 use crate::word::Word;
 use std::alloc::{AllocError, Global};
 
-#[derive(Clone, Copy)]
+#[derive(Clone, Copy, Debug, PartialEq, Eq)]
 pub enum Drawing {
     // at a place
     Wheel(u64),
@@ -16,14 +16,14 @@ pub enum Drawing {
     Lottery(u64),
 }
 
-#[derive(Clone, Copy)]
+#[derive(Clone, Copy, Debug, PartialEq, Eq)]
 pub struct DrawArgs {
     // the most lots of an account in one round, if it goes in rounds
     pub rounds: Option<u64>,
     pub drawing: Drawing,
 }
 
-#[derive(Drop)]
+#[derive(Debug, Drop, PartialEq, Eq)]
 pub struct AwardArgs {
     pub demand: u64,
     pub claims: Vec<u64>,
@@ -33,13 +33,10 @@ pub struct AwardArgs {
 fn read_drawing(args: &[Token]) -> Option<Drawing>
     ensures { Reads drawing_words args.now result }
 {
-    match args.split_first() {
-        Some((Token::Known(Word::Wheel), rest)) => Some(Drawing::Wheel(last_number(rest)?)),
-        Some((Token::Known(Word::ProRata), rest)) => {
-            at_end(rest)?;
-            Some(Drawing::ProRata)
-        }
-        Some((Token::Known(Word::Lottery), rest)) => Some(Drawing::Lottery(last_number(rest)?)),
+    match args {
+        [Token::Known(Word::Wheel), Token::Number(place)] => Some(Drawing::Wheel(*place)),
+        [Token::Known(Word::ProRata)] => Some(Drawing::ProRata),
+        [Token::Known(Word::Lottery), Token::Number(x)] => Some(Drawing::Lottery(*x)),
         _ => None,
     }
 }
@@ -48,18 +45,13 @@ fn read_drawing(args: &[Token]) -> Option<Drawing>
 pub fn read_draw(args: &[Token]) -> Option<DrawArgs>
     ensures { Reads draw_words args.now result }
 {
-    if let Some((Token::Known(Word::Rounds), args)) = args.split_first() {
-        let (r, args) = next_number(args)?;
-        let drawing = read_drawing(args)?;
-        return Some(DrawArgs {
-            rounds: Some(r),
-            drawing,
-        });
-    }
-    let drawing = read_drawing(args)?;
+    let (rounds, drawing) = match args {
+        [Token::Known(Word::Rounds), Token::Number(r), drawing @ ..] => (Some(*r), drawing),
+        _ => (None, args),
+    };
     Some(DrawArgs {
-        rounds: None,
-        drawing,
+        rounds,
+        drawing: read_drawing(drawing)?,
     })
 }
 
@@ -67,11 +59,11 @@ pub fn read_draw(args: &[Token]) -> Option<DrawArgs>
 pub fn read_award(heap: Global, args: &[Token]) -> Result<Option<AwardArgs>, AllocError>
     ensures { IfOk result (λ o. Reads award_words args.now o) }
 {
-    let Some((demand, args)) = next_number(args) else {
+    let [Token::Number(demand), claims @ ..] = args else {
         return Ok(None);
     };
-    let Some(claims) = numbers(heap, args)? else {
-        return Ok(None);
-    };
-    Ok(Some(AwardArgs { demand, claims }))
+    Ok(numbers(heap, claims)?.map(|claims| AwardArgs {
+        demand: *demand,
+        claims,
+    }))
 }

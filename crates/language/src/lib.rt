@@ -17,4 +17,4 @@ pub use echo::{echo_word, read_words};
 pub use questions::{ExpiryArgs, LotArgs};
 pub use text::next_word;
 pub use token::Token;
-pub use word::Verb;
+pub use word::{UnknownWord, Verb};

@@ -2,14 +2,12 @@
 ghost use Rattle.std.specs.Prelude.{IfOk};
 ghost use Rattle.language.specs.Language.{Reads, expiry_words, lot_words};
 
-use crate::args::{
-    Market, last_number, next_class, next_market, next_number, next_tariff, numbers,
-};
+use crate::args::{Market, numbers};
 use crate::token::Token;
 use std::alloc::{AllocError, Global};
 use tariff::{Class, Delivered};
 
-#[derive(Drop)]
+#[derive(Debug, Drop, PartialEq, Eq)]
 pub struct ExpiryArgs {
     pub market: Market,
     pub year: u64,
@@ -17,7 +15,7 @@ pub struct ExpiryArgs {
     pub holidays: Vec<u64>,
 }
 
-#[derive(Clone, Copy)]
+#[derive(Clone, Copy, Debug)]
 pub struct LotArgs {
     pub tariff: Delivered,
     pub class: Class,
@@ -32,22 +30,22 @@ pub struct LotArgs {
 pub fn read_expiry(heap: Global, args: &[Token]) -> Result<Option<ExpiryArgs>, AllocError>
     ensures { IfOk result (λ o. Reads expiry_words args.now o) }
 {
-    let Some((market, args)) = next_market(args) else {
-        return Ok(None);
-    };
-    let Some((year, args)) = next_number(args) else {
-        return Ok(None);
-    };
-    let Some((month, args)) = next_number(args) else {
-        return Ok(None);
-    };
-    let Some(holidays) = numbers(heap, args)? else {
-        return Ok(None);
-    };
-    Ok(Some(ExpiryArgs {
+    let [
         market,
-        year,
-        month,
+        Token::Number(year),
+        Token::Number(month),
+        holidays @ ..,
+    ] = args
+    else {
+        return Ok(None);
+    };
+    let Ok(market) = Market::try_from(*market) else {
+        return Ok(None);
+    };
+    Ok(numbers(heap, holidays)?.map(|holidays| ExpiryArgs {
+        market,
+        year: *year,
+        month: *month,
         holidays,
     }))
 }
@@ -56,16 +54,22 @@ pub fn read_expiry(heap: Global, args: &[Token]) -> Result<Option<ExpiryArgs>, A
 pub fn read_lot(args: &[Token]) -> Option<LotArgs>
     ensures { Reads lot_words args.now result }
 {
-    let (tariff, args) = next_tariff(args)?;
-    let (class, args) = next_class(args)?;
-    let (strike, args) = next_number(args)?;
-    let (basis, args) = next_number(args)?;
-    let (spot, args) = next_number(args)?;
-    let (percentage, args) = next_number(args)?;
-    let size = last_number(args)?;
+    let [tariff, class, figures @ ..] = args else {
+        return None;
+    };
+    let [
+        Token::Number(strike),
+        Token::Number(basis),
+        Token::Number(spot),
+        Token::Number(percentage),
+        Token::Number(size),
+    ] = *figures
+    else {
+        return None;
+    };
     Some(LotArgs {
-        tariff,
-        class,
+        tariff: Delivered::try_from(*tariff).ok()?,
+        class: Class::try_from(*class).ok()?,
         strike,
         basis,
         spot,

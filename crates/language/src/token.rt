@@ -1,10 +1,10 @@
 // What a word of a line is: a number, a word of the language, or neither.
-ghost use Rattle.std.specs.Prelude.{Decides};
+ghost use Rattle.std.specs.Prelude.{◌↔◌, IsTrue};
 ghost use Rattle.language.specs.Text.{Means, Numeral};
 
 use crate::word::{Verb, Word};
 
-#[derive(Clone, Copy)]
+#[derive(Clone, Copy, Debug, PartialEq, Eq)]
 pub enum Token {
     Number(u64),
     // a number above 2^64 - 1
@@ -16,18 +16,14 @@ pub enum Token {
 
 // Whether the text is a decimal number: digits, and at least one.
 fn is_numeral(text: &[u8]) -> bool
-    ensures { Decides result (Numeral text.now) }
+    ensures { IsTrue result ↔ Numeral text.now }
 {
-    for b in text {
-        if !b.is_ascii_digit() {
-            return false;
-        }
-    }
-    !text.is_empty()
+    !text.is_empty() && text.iter().all(|b| b.is_ascii_digit())
 }
 
 impl Token {
     // What the word means.
+    #[tactic(auto, using(crate::proofs::Numbers::numeral_means, crate::proofs::Numbers::unknown_unless_utf8))]
     pub fn read(text: &[u8]) -> Token
         ensures { Means text.now result }
     {
@@ -35,17 +31,11 @@ impl Token {
             return Token::Unknown;
         };
         if is_numeral(text) {
-            return match word.parse::<u64>() {
-                Ok(n) => Token::Number(n),
-                Err(_) => Token::TooLarge,
-            };
+            return word.parse().map_or(Token::TooLarge, Token::Number);
         }
-        if let Some(verb) = Verb::read(word) {
+        if let Ok(verb) = word.parse() {
             return Token::Name(verb);
         }
-        match Word::read(word) {
-            Some(known) => Token::Known(known),
-            None => Token::Unknown,
-        }
+        word.parse().map_or(Token::Unknown, Token::Known)
     }
 }

@@ -1,8 +1,10 @@
 // The words of the console's language: those that name a command, and those that stand among its figures.
-ghost use Rattle.std.specs.Prelude.{◌≡◌, MatchOption, ◌≢◌};
-ghost use Rattle.language.specs.Text.{named, spelled, usage};
-ghost use Rattle.language.specs.declared.word.Verb.{Verb as AnyVerb};
-ghost use Rattle.language.specs.declared.word.Word.{Word as AnyWord};
+ghost use Rattle.std.specs.Prelude.{◌≡◌, Some, codes};
+ghost use Rattle.language.specs.Text.{Parses, named, spelled, usage};
+
+use std::error::Error;
+use std::fmt;
+use std::str::FromStr;
 
 #[derive(Clone, Copy, Debug, PartialEq, Eq)]
 pub enum Verb {
@@ -24,20 +26,38 @@ pub enum Word {
     Rounds,
 }
 
-impl Verb {
-    // The command of that name, if there is one.
-    pub fn read(text: &str) -> Option<Verb>
-        ensures { MatchOption result ((v : AnyVerb) → text.now ≢ named v) (λ v. text.now ≡ named v) }
-    {
+// The word, or its token, stands for nothing of the kind.
+#[derive(Clone, Copy, Debug, PartialEq, Eq)]
+pub struct UnknownWord;
+
+impl fmt::Display for UnknownWord {
+    ghost output = { λ _. Some (codes "unknown word") };
+
+    fn fmt<W: fmt::Write>(&self, f: &mut fmt::Formatter<W>) -> fmt::Result {
+        f.write_str("unknown word")
+    }
+}
+
+impl Error for UnknownWord {}
+
+// The command of that name, if there is one.
+impl FromStr for Verb {
+    type Err = UnknownWord;
+
+    ghost from_str_gives = { Parses named };
+
+    fn from_str(text: &str) -> Result<Verb, UnknownWord> {
         match text {
-            "EXPIRY" => Some(Verb::Expiry),
-            "LOT" => Some(Verb::Lot),
-            "DRAW" => Some(Verb::Draw),
-            "AWARD" => Some(Verb::Award),
-            _ => None,
+            "EXPIRY" => Ok(Verb::Expiry),
+            "LOT" => Ok(Verb::Lot),
+            "DRAW" => Ok(Verb::Draw),
+            "AWARD" => Ok(Verb::Award),
+            _ => Err(UnknownWord),
         }
     }
+}
 
+impl Verb {
     // How the command is written.
     pub fn usage(self) -> &'static str
         ensures { result.now ≡ usage self }
@@ -51,21 +71,23 @@ impl Verb {
     }
 }
 
-impl Word {
-    // The word that is spelled so, if there is one.
-    pub fn read(text: &str) -> Option<Word>
-        ensures { MatchOption result ((w : AnyWord) → text.now ≢ spelled w) (λ w. text.now ≡ spelled w) }
-    {
+// The word that is spelled so, if there is one.
+impl FromStr for Word {
+    type Err = UnknownWord;
+
+    ghost from_str_gives = { Parses spelled };
+
+    fn from_str(text: &str) -> Result<Word, UnknownWord> {
         match text {
-            "SHARES" => Some(Word::Shares),
-            "BONDS" => Some(Word::Bonds),
-            "CALL" => Some(Word::Call),
-            "PUT" => Some(Word::Put),
-            "WHEEL" => Some(Word::Wheel),
-            "PRORATA" => Some(Word::ProRata),
-            "LOTTERY" => Some(Word::Lottery),
-            "ROUNDS" => Some(Word::Rounds),
-            _ => None,
+            "SHARES" => Ok(Word::Shares),
+            "BONDS" => Ok(Word::Bonds),
+            "CALL" => Ok(Word::Call),
+            "PUT" => Ok(Word::Put),
+            "WHEEL" => Ok(Word::Wheel),
+            "PRORATA" => Ok(Word::ProRata),
+            "LOTTERY" => Ok(Word::Lottery),
+            "ROUNDS" => Ok(Word::Rounds),
+            _ => Err(UnknownWord),
         }
     }
 }
