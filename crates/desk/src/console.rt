@@ -1,7 +1,7 @@
 // Lines of text answered in text.
-ghost use Rattle.std.specs.Prelude.{◌≡◌, ℕ, List, ◌∷◌, ◌++◌, IfOk, string_bytes, OnOk};
+ghost use Rattle.std.specs.Prelude.{◌≡◌, ℕ, List, ◌∷◌, ◌++◌, IfOk, OnOk};
 ghost use Rattle.desk.specs.Console.{Answers, Replies, after_echo};
-ghost use Rattle.language.specs.Text.{Meant, echoed, words};
+ghost use Rattle.language.specs.Text.{Appends, Meant, echoed, words};
 ghost use Rattle.language.specs.declared.token.Token.{Token as AnyToken};
 
 use crate::answer::{Answer, Fault};
@@ -34,7 +34,7 @@ impl Desk {
         rest: &[u8],
         out: &mut String,
     ) -> Result<Answer, AllocError>
-        ensures { IfOk result (λ a. ((ts : List AnyToken) × Meant (first.now ∷ words rest.now) ts × Answers ts self.old a self.new) × (string_bytes out.new ≡ string_bytes out.old ++ (echoed (first.now ∷ words rest.now) ++ after_echo a))) }
+        ensures { IfOk result (λ a. ((ts : List AnyToken) × Meant (first.now ∷ words rest.now) ts × Answers ts self.old a self.new) × Appends out.old out.new (echoed (first.now ∷ words rest.now) ++ after_echo a)) }
     {
         echo_word(first, out)?;
         let args = read_words(heap, rest, out)?;
@@ -50,7 +50,7 @@ impl Desk {
         line: &[u8],
         out: &mut String,
     ) -> Result<Option<Answer>, AllocError>
-        ensures { IfOk result (λ o. (text : List ℕ) × Replies line.now self.old o self.new text × (string_bytes out.new ≡ string_bytes out.old ++ text)) }
+        ensures { IfOk result (λ o. (text : List ℕ) × Replies line.now self.old o self.new text × Appends out.old out.new text) }
     {
         let Some((first, rest)) = next_word(line) else {
             return Ok(None);

@@ -1,7 +1,8 @@
 // A run of the console over an input that comes in parts.
-ghost use Rattle.std.specs.Prelude.{◌≡◌, ℕ, List, [], ◌∷◌, ◌++◌, IfOk, string_bytes, Option as AnyOption, OnOk};
+ghost use Rattle.std.specs.Prelude.{◌≡◌, ℕ, List, [], ◌∷◌, ◌++◌, IfOk, Option as AnyOption, OnOk};
 ghost use Rattle.desk.specs.Console.{Replies};
-ghost use Rattle.desk.specs.Run.{Heard, Hears, Ran, after_line, is_error, Kept, nothing_heard, with_byte};
+ghost use Rattle.desk.specs.Run.{Heard, Hears, Kept, Ran, after_line, is_error, nothing_heard, with_byte};
+ghost use Rattle.language.specs.Text.{Appends};
 ghost use Rattle.desk.specs.declared.answer.Answer.{Answer as AnyAnswer};
 
 use crate::answer::Answer;
@@ -58,7 +59,7 @@ impl Console {
 
     // Answers the line, and tells whether an error was told so far.
     fn end_line(&mut self, out: &mut String) -> Result<bool, AllocError>
-        ensures { IfOk result (λ bad. (o : AnyOption AnyAnswer) × (text : List ℕ) × Replies self.old.line self.old.desk o self.new.desk text × (string_bytes out.new ≡ string_bytes out.old ++ text) × (self.new ≡ after_line self.old o self.new.desk) × (bad ≡ self.new.bad)) }
+        ensures { IfOk result (λ bad. (o : AnyOption AnyAnswer) × (text : List ℕ) × Replies self.old.line self.old.desk o self.new.desk text × Appends out.old out.new text × (self.new ≡ after_line self.old o self.new.desk) × (bad ≡ self.new.bad)) }
     {
         let answer = self.desk.reply(self.heap, &self.line, out)?;
         self.line.clear();
@@ -68,7 +69,7 @@ impl Console {
 
     // Hears the next byte of the input, and answers the line where it ends it.
     fn hear_byte(&mut self, b: u8, out: &mut String) -> Result<(), AllocError>
-        ensures { OnOk result ((text : List ℕ) × (string_bytes out.new ≡ string_bytes out.old ++ text) × Hears self.old (b ∷ []) self.new text) }
+        ensures { OnOk result ((text : List ℕ) × Appends out.old out.new text × Hears self.old (b ∷ []) self.new text) }
     {
         if b == b'\n' {
             self.end_line(out)?;
@@ -80,7 +81,7 @@ impl Console {
 
     // Hears the next bytes of the input, and answers each line that they end.
     pub fn hear(&mut self, bytes: &[u8], out: &mut String) -> Result<(), AllocError>
-        ensures { OnOk result ((text : List ℕ) × (string_bytes out.new ≡ string_bytes out.old ++ text) × Hears self.old bytes.now self.new text) }
+        ensures { OnOk result ((text : List ℕ) × Appends out.old out.new text × Hears self.old bytes.now self.new text) }
     {
         for b in bytes {
             self.hear_byte(*b, out)?;
@@ -90,7 +91,7 @@ impl Console {
 
     // Ends the run: answers a last line that has no end, and tells whether an error was told.
     pub fn close(mut self, out: &mut String) -> Result<bool, AllocError>
-        ensures { IfOk result (λ bad. (text : List ℕ) × (string_bytes out.new ≡ string_bytes out.old ++ text) × ((input before : List ℕ) → Heard input self before → Ran input (before ++ text) bad)) }
+        ensures { IfOk result (λ bad. (text : List ℕ) × Appends out.old out.new text × ((input before : List ℕ) → Heard input self before → Ran input (before ++ text) bad)) }
     {
         self.end_line(out)
     }

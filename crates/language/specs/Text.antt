@@ -1,5 +1,5 @@
 -- How a line of the console is taken apart.
-use Rattle.std.specs.Prelude.{◌≡◌, ℕ, ◌+◌, ◌-◌, ◌*◌, ◌^◌, ◌<◌, ◌≤◌, Bool, true, cond, List, [], ◌∷◌, ◌++◌, map, length, codes, MatchResult, Result, String, string_bytes, ◌≢◌, nat_le, nat_lt}
+use Rattle.std.specs.Prelude.{◌≡◌, ℕ, ◌+◌, ◌-◌, ◌*◌, ◌^◌, ◌<◌, ◌≤◌, Bool, true, if◌then◌else◌, List, [], ◌∷◌, ◌++◌, map, length, codes, MatchResult, Result, String, string_bytes, ◌≢◌, nat_le, nat_lt}
 use Rattle.std.specs.Str.{all_ascii_digits}
 use Rattle.language.specs.declared.token.Token.{Token}
 use Rattle.language.specs.declared.token.Token.TheVariants.{Number, TooLarge, Name, Known, Unknown}
@@ -28,7 +28,7 @@ ended (b ∷ bs) = (b ∷ bs) ∷ []
 -- the words of w and then the bytes, where w is the part of a word that was read before them
 abbrev pub split : List ℕ → List ℕ → List (List ℕ)
 split w [] = ended w
-split w (b ∷ bs) = cond (blank b) (ended w ++ split [] bs) (split (w ++ (b ∷ [])) bs)
+split w (b ∷ bs) = if blank b then ended w ++ split [] bs else split (w ++ (b ∷ [])) bs
 
 abbrev pub words : List ℕ → List (List ℕ)
 words bs = split [] bs
@@ -84,7 +84,7 @@ Meant (w ∷ ws) (t ∷ ts) = Means w t × Meant ws ts
 
 -- a byte of an echo: what is not printable ASCII is a question mark
 abbrev pub printed : ℕ → ℕ
-printed b = cond (nat_lt b 127) b 63
+printed b = if nat_lt b 127 then b else 63
 
 -- the words of a command, joined by single spaces: those after the first, and all of them
 abbrev pub echoed_on : List (List ℕ) → List ℕ

@@ -52,8 +52,8 @@ impl TryFrom<Token> for Delivered {
 
     fn try_from(token: Token) -> Result<Delivered, UnknownWord> {
         match token {
-            Token::Number(2017) => Ok(Delivered::Of2017(Tariff2017 {})),
-            Token::Number(1996) => Ok(Delivered::Of1996(Tariff1996 {})),
+            Token::Number(2017) => Ok(Delivered::Of2017(Tariff2017)),
+            Token::Number(1996) => Ok(Delivered::Of1996(Tariff1996)),
             _ => Err(UnknownWord),
         }
     }

@@ -10,7 +10,7 @@ use crate::token::Token;
 use crate::word::Verb;
 use std::alloc::{AllocError, Global};
 
-#[derive(Debug, Drop)]
+#[derive(Debug, Drop, PartialEq, Eq)]
 pub enum Command {
     Expiry(ExpiryArgs),
     Lot(LotArgs),

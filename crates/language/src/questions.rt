@@ -15,7 +15,7 @@ pub struct ExpiryArgs {
     pub holidays: Vec<u64>,
 }
 
-#[derive(Clone, Copy, Debug)]
+#[derive(Clone, Copy, Debug, PartialEq, Eq)]
 pub struct LotArgs {
     pub tariff: Delivered,
     pub class: Class,
