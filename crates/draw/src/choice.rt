@@ -45,18 +45,10 @@ impl Draw for Plain {
     ghost fair = { plain_fair };
 
     fn award(&mut self, claims: [u32; 16], demand: u32) -> [u32; 16] {
-        match *self {
-            Plain::Wheel(mut draw) => {
-                let awards = draw.award(claims, demand);
-                *self = Plain::Wheel(draw);
-                awards
-            }
-            Plain::ProRata(mut draw) => draw.award(claims, demand),
-            Plain::Lottery(mut draw) => {
-                let awards = draw.award(claims, demand);
-                *self = Plain::Lottery(draw);
-                awards
-            }
+        match self {
+            Plain::Wheel(draw) => draw.award(claims, demand),
+            Plain::ProRata(draw) => draw.award(claims, demand),
+            Plain::Lottery(draw) => draw.award(claims, demand),
         }
     }
 }
@@ -84,17 +76,9 @@ impl Draw for Choice {
     ghost fair = { choice_fair };
 
     fn award(&mut self, claims: [u32; 16], demand: u32) -> [u32; 16] {
-        match *self {
-            Choice::Plain(mut draw) => {
-                let awards = draw.award(claims, demand);
-                *self = Choice::Plain(draw);
-                awards
-            }
-            Choice::InRounds(mut draw) => {
-                let awards = draw.award(claims, demand);
-                *self = Choice::InRounds(draw);
-                awards
-            }
+        match self {
+            Choice::Plain(draw) => draw.award(claims, demand),
+            Choice::InRounds(draw) => draw.award(claims, demand),
         }
     }
 }
