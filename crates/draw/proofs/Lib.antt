@@ -1,2 +1,3 @@
+pub mod Arrays
 pub mod GoesRound
 pub mod Known
