@@ -1,3 +1,5 @@
 pub mod Arrays
+pub mod Drawing
 pub mod GoesRound
 pub mod Known
+pub mod Parted

@@ -63,6 +63,7 @@ impl Parting {
     }
 
     // The place of the largest remainder, of the first where several are as large.
+    #[tactic(auto, using(crate::proofs::Parted::rest_at))]
     fn first_largest(&self) -> usize
         ensures place { result ≡ first_largest (rests_of self.now.shares) }
         ensures inside { result < 16 }
@@ -77,6 +78,7 @@ impl Parting {
     }
 
     // One lot more to the largest remainder, which is then spent.
+    #[tactic(auto, using(crate::proofs::Parted::giving))]
     fn give_one(&mut self)
         requires { 0 < self.old.lots }
         ensures given { awards_of self.new.shares ≡ slice_set (awards_of self.old.shares) (first_largest (rests_of self.old.shares)) (slice_index (awards_of self.old.shares) (first_largest (rests_of self.old.shares)) + 1) }
@@ -93,6 +95,7 @@ impl Parting {
     }
 
     // The lots still to be given, one each.
+    #[tactic(auto, using(crate::proofs::Parted::one_given))]
     fn one_each(mut self) -> [u32; 16]
         ensures { result ≡ one_each self.lots (rests_of self.shares) (awards_of self.shares) }
     {
