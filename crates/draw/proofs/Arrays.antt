@@ -2,11 +2,17 @@
 use Rattle.std.proofs.Common.{◌≡◌, ℕ, zero, suc, ◌+◌, ◌<◌, List, [], ◌∷◌, map, length, get_or, sym, subst, ◌∙◌, arith}
 use Rattle.std.proofs.lemmas.List.{ext_get_or, get_or-map, length-map}
 use Rattle.std.specs.Array.{IsFromFnResultFrom, IsMapOf, MapsFrom, list_steps}
-use Rattle.std.specs.Fn.{Mut, Called}
-use Rattle.std.specs.Iterator.{CallableAtEachTurn, Yields}
+use Rattle.std.specs.Fn.{Mut}
+use Rattle.std.specs.Iterator.{ActsAs, CallableAtEachTurn, Yields}
 use Rattle.std.specs.List.{FoldsTo}
 
-module _ {F A B : Type 0} (g : Mut F (A × Unit {0}) B) (h : A → B) (f : F) (each : (x : A) (y : B) (q : F) → Called g f (x, tt) y q → (q ≡ f) × (y ≡ h x)) (xs : List A) (ys : List B) where
+-- a list is a map where each entry is
+pub is_map : {A B : Type 0} (f : A → B) (d : A) (xs : List A) (ys : List B) → length ys ≡ length xs → ((k : ℕ) → k < length xs → get_or ys k (f d) ≡ f (get_or xs k d)) → ys ≡ map f xs
+is_map f d xs ys long each =
+    ext_get_or (f d) ys (map f xs) (long ∙ sym (length-map xs f))
+    (λ k h. let inside : k < length xs = omega arith in each k inside ∙ sym (get_or-map f xs k d (f d) inside))
+
+module _ {F A B : Type 0} (g : Mut F (A × Unit {0}) B) (h : A → B) (f : F) (each : ActsAs g f h) (xs : List A) (ys : List B) where
   mapped_at : (i n j k : ℕ) (d : A) (e : B) → j < n → k ≡ i + j → MapsFrom g f xs ys i n → get_or ys k e ≡ h (get_or xs k d)
   mapped_at i zero j k d e l at m = absurd (omega arith)
   mapped_at i (suc n) zero k d e l at m =
@@ -21,10 +27,9 @@ module _ {F A B : Type 0} (g : Mut F (A × Unit {0}) B) (h : A → B) (f : F) (e
   -- a map of a list
   pub mapped : (n : ℕ) (d : A) → length xs ≡ n → IsMapOf g f xs ys n → ys ≡ map h xs
   mapped n d long m =
-      ext_get_or (h d) ys (map h xs) (m.long ∙ sym long ∙ sym (length-map xs h))
-      (λ k l. mapped_at 0 n k k d (h d) (omega (arith, m.long)) (omega arith) m.each ∙ sym (get_or-map h xs k d (h d) (omega (arith, m.long))))
+      is_map h d xs ys (m.long ∙ sym long) (λ k inside. mapped_at 0 n k k d (h d) (omega arith) (omega arith) m.each)
 
-module _ {F B : Type 0} (g : Mut F (ℕ × Unit {0}) B) (h : ℕ → B) (f : F) (each : (k : ℕ) (y : B) (q : F) → Called g f (k, tt) y q → (q ≡ f) × (y ≡ h k)) (ys : List B) where
+module _ {F B : Type 0} (g : Mut F (ℕ × Unit {0}) B) (h : ℕ → B) (f : F) (each : ActsAs g f h) (ys : List B) where
   -- what is at each place
   pub made_at : (i n j k : ℕ) (e : B) → j < n → k ≡ i + j → IsFromFnResultFrom g f ys i n → get_or ys k e ≡ h k
   made_at i zero j k e l at m = absurd (omega arith)

@@ -1,9 +1,11 @@
 -- What pro rata's functions cite: the shares seen as a list of awards and one of remainders.
-use Rattle.std.proofs.Common.{◌≡◌, ℕ, suc, ◌+◌, ◌-◌, ◌<◌, ◌≤◌, List, length, get_or, slice_index, slice_set, set, sym, ap, ◌∙◌, arith}
-use Rattle.std.proofs.lemmas.List.{get_or-map, length-map, map-set}
+use Rattle.std.proofs.Common.{◌≡◌, ℕ, suc, ◌+◌, ◌-◌, ◌<◌, ◌≤◌, List, length, get_or, slice_index, set, ap, arith}
+use Rattle.std.proofs.lemmas.List.{get_or-map, map-set}
 use Rattle.measures.specs.Sums.{total}
-use Rattle.measures.proofs.Sums.{entry_within, total-set}
-use Rattle.draw.specs.ProRata.{first_largest, one_each}
+use Rattle.measures.proofs.Sums.{entry_within}
+use Rattle.draw.specs.InProportion.{lot_more, spent}
+use Rattle.draw.specs.ProRata.{one_each}
+use Rattle.draw.proofs.Proportion.{one_higher}
 use Rattle.draw.specs.Shares.{awards_of, rests_of}
 use Rattle.draw.specs.declared.pro_rata.Share.{Share}
 
@@ -27,13 +29,15 @@ awards-set shares k share = map-set (λ s. s.award) shares k share
 pub rests-set : (shares : List Share) (k : ℕ) (share : Share) → rests_of (set shares k share) ≡ set (rests_of shares) k share.rest
 rests-set shares k share = map-set (λ s. s.rest) shares k share
 
+-- an award with one lot more
+pub awards_higher : (shares : List Share) (k : ℕ) (share : Share) → k < length shares → share.award ≡ (get_or shares k nothing).award + 1 → total (awards_of (set shares k share)) ≤ total (awards_of shares) + 1
+awards_higher shares k share inside more =
+    let e : share.award ≡ slice_index (awards_of shares) k + 1 = omega (arith, award_at shares k inside) in
+    omega (arith, ap total (awards-set shares k share), ap (λ award. total (set (awards_of shares) k award)) e, one_higher (awards_of shares) k)
+
 -- one lot given
-pub one_given : (lots : ℕ) (rests awards : List ℕ) → 0 < lots → one_each lots rests awards ≡ one_each (lots - 1) (slice_set rests (first_largest rests) 0) (slice_set awards (first_largest rests) (slice_index awards (first_largest rests) + 1))
-one_given lots rests awards some =
+pub one_more : (lots : ℕ) (rests awards : List ℕ) → 0 < lots → one_each lots rests awards ≡ one_each (lots - 1) (spent rests) (lot_more rests awards)
+one_more lots rests awards some =
     let e : lots ≡ suc (lots - 1) = omega arith in ap (λ n. one_each n rests awards) e
 
--- one lot more changes the awards' total by one
-pub total-awards-set : (shares : List Share) (k : ℕ) (share : Share) → k < length shares → total (awards_of (set shares k share)) + get_or (awards_of shares) k 0 ≡ total (awards_of shares) + share.award
-total-awards-set shares k share inside = ap (λ awards. total awards + get_or (awards_of shares) k 0) (awards-set shares k share) ∙ total-set (awards_of shares) k share.award (omega (arith, length-map shares (λ s. s.award)))
-
-pub ruleset giving = (award_at, awards-set, rests-set, total-awards-set, award_within)
+pub ruleset giving = (award_at, awards-set, rests-set, awards_higher, award_within)

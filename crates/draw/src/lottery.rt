@@ -23,7 +23,7 @@ struct Undrawn {
 
 impl Undrawn {
     // The account that a ticket falls on.
-    #[tactic(auto, using(crate::proofs::Drawing::passing))]
+    #[tactic(auto, using(crate::proofs::Tickets::passing))]
     fn falls_on(&self, mut ticket: u32) -> usize
         requires { ticket < self.now.lots }
         ensures account { result ≡ falls_on self.now.claims ticket }
@@ -39,7 +39,7 @@ impl Undrawn {
     }
 
     // One lot of the account is awarded.
-    #[tactic(auto, using(crate::proofs::Drawing::taking))]
+    #[tactic(auto, using(crate::proofs::Tickets::taking))]
     fn take(&mut self, account: usize)
         requires { 0 < slice_index self.old.claims account }
         ensures { self.new.claims ≡ one_less self.old.claims account }

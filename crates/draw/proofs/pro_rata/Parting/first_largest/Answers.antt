@@ -1,6 +1,6 @@
 use Rattle.std.proofs.Common.{◌≡◌, length, arith, rules}
 use Rattle.std.proofs.lemmas.List.{length-map}
-use Rattle.draw.specs.InProportion.{is_first_largest}
+use Rattle.draw.proofs.Proportion.{is_first_largest}
 use Rattle.draw.specs.Shares.{rests_of}
 use Rattle.draw.proofs.pro_rata.Parting.first_largest.Goals as goal
 

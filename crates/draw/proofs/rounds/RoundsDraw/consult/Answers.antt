@@ -1,6 +1,7 @@
 use Rattle.std.proofs.Common.{sym, ap, ◌∙◌, arith}
 use Rattle.draw.specs.Rounds.{standing}
-use Rattle.draw.specs.Held.{round_on, round_takes, rounds_ended}
+use Rattle.draw.specs.Held.{round_takes, rounds_ended}
+use Rattle.draw.proofs.RoundOn.{round_on}
 use Rattle.draw.proofs.Known.{same_rounds}
 use Rattle.draw.proofs.rounds.RoundsDraw.consult.Goals as goal
 
