@@ -1,5 +1,5 @@
 -- Each ticket is one account's; and what the lottery's functions cite.
-use Rattle.std.proofs.Common.{◌≡◌, ℕ, zero, suc, ◌+◌, ◌-◌, ◌<◌, List, [], ◌∷◌, length, take, nat_lt, sym, ap, ◌∙◌, inl, inr, arith}
+use Rattle.std.proofs.Common.{◌≡◌, ℕ, zero, suc, ◌+◌, ◌-◌, ◌<◌, List, [], ◌∷◌, length, take, nat_lt, sym, refl, ap, ◌∙◌, inl, inr, arith}
 use Rattle.std.proofs.lemmas.List.{take_all}
 use Rattle.std.proofs.lemmas.Bool.{cases_lt, cond-true, cond-false, lt-ltb, le-ltb}
 use Rattle.std.specs.Prelude.{slice_index}
@@ -27,6 +27,9 @@ front_inside xs k h = elim (cases_lt k (length xs)) [ inl l ↦ l | inr m ↦ ab
 pub found : (left : List ℕ) (account rest t : ℕ) → total (take account left) + rest ≡ t → rest < slice_index left account → account ≡ falls_on left t
 found left account rest t h below = sym (of_no_other left account t (record { from = omega arith; below = omega arith }))
 
-pub ruleset passing = (total_more, front_inside)
+pub found_at : (left : List ℕ) (account rest : ℕ) → rest < slice_index left account → falls_on left (total (take account left) + rest) ≡ account
+found_at left account rest below = sym (found left account rest (total (take account left) + rest) refl below)
+
+pub ruleset passing = (total_more, front_inside, found_at)
 
 pub ruleset taking = (entry_stands, entry_within, total-set)

@@ -1,5 +1,5 @@
 // What is put to a draw.
-ghost use Rattle.std.specs.Prelude.{◌≡◌, ◌-◌, ◌^◌, ◌<◌, ◌≤◌};
+ghost use Rattle.std.specs.Prelude.{◌≡◌, ◌-◌, ◌^◌, ◌<◌, ◌≤◌, min};
 ghost use Rattle.draw.specs.Fair.{Read, all_read, less, lots_read};
 ghost use Rattle.draw.specs.Rounds.{cut, used_up};
 ghost use Rattle.measures.specs.Sums.{total};
@@ -9,8 +9,8 @@ ghost use Rattle.measures.specs.Sums.{total};
 pub struct Exercise {
     pub claims: [u32; 16],
     pub demand: u32,
-    pub ghost read: { Read claims },
-    pub ghost small: { demand ≤ 10_000 },
+    ghost read: { Read claims },
+    ghost small: { demand ≤ 10_000 },
 }
 
 // A figure as a draw reads it.
@@ -18,6 +18,13 @@ fn lots_read(n: u32) -> u32
     ensures { result ≡ lots_read n }
 {
     n.min(10_000)
+}
+
+// A claim cut to r.
+fn cut_to(claim: u32, r: u32) -> u32
+    ensures { result ≡ min claim r }
+{
+    claim.min(r)
 }
 
 // Entry by entry, the first lots less the second.
@@ -66,7 +73,7 @@ impl Exercise {
         ensures demand { result.demand ≡ self.demand }
     {
         Exercise {
-            claims: self.claims.map(|claim| claim.min(r)),
+            claims: self.claims.map(|claim| cut_to(claim, r)),
             demand: self.demand,
         }
     }

@@ -14,7 +14,7 @@ pub struct Lottery {
 }
 
 // What is left of the claims, and how many lots they are together.
-#[derive(Clone, Copy)]
+#[derive(Drop)]
 struct Undrawn {
     claims: [u32; 16],
     lots: u32,

@@ -1,5 +1,5 @@
 // Pro rata.
-ghost use Rattle.std.specs.Prelude.{◌≡◌, ◌+◌, ◌-◌, ◌<◌, ◌≤◌, slice_index, slice_set};
+ghost use Rattle.std.specs.Prelude.{◌≡◌, ◌+◌, ◌-◌, ◌*◌, ◌/◌, ◌%◌, ◌<◌, ◌≤◌, slice_index, slice_set};
 ghost use Rattle.draw.specs.ProRata.{ProRataSpreads, first_largest, one_each, parts, pro_rata, remainders};
 ghost use Rattle.draw.specs.Shares.{awards_of, rests_of};
 ghost use Rattle.measures.specs.Sums.{total};
@@ -26,19 +26,29 @@ fn awards(shares: [Share; 16]) -> [u32; 16]
     shares.map(|share| share.award)
 }
 
-// Each claim's part of the demand, rounded down, and the remainder of the division.
+// A claim's part of the demand, rounded down, and the remainder of the division.
+fn share_of(exercise: &Exercise, claim: u32, all: u32) -> Share
+    requires small { claim ≤ 10_000 }
+    requires some { 0 < all }
+    ensures award { result.award ≡ exercise.now.demand * claim / all }
+    ensures rest { result.rest ≡ exercise.now.demand * claim % all }
+{
+    let product = exercise.demand * claim;
+    Share {
+        award: product / all,
+        rest: product % all,
+    }
+}
+
+// The shares of all claims.
 fn shares(exercise: Exercise) -> [Share; 16]
     requires { exercise.demand < total exercise.claims }
     ensures parted { awards_of result ≡ parts exercise.claims exercise.demand }
     ensures remaining { rests_of result ≡ remainders exercise.claims exercise.demand }
     ensures within { total (awards_of result) ≤ exercise.demand }
 {
-    let demand = exercise.demand;
     let all = exercise.all();
-    exercise.claims.map(|claim| Share {
-        award: demand * claim / all,
-        rest: demand * claim % all,
-    })
+    exercise.claims.map(|claim| share_of(&exercise, claim, all))
 }
 
 // The demand as it is parted: the shares of the accounts, and the lots still to be given.
@@ -63,7 +73,7 @@ impl Parting {
     }
 
     // The place of the largest remainder, of the first where several are as large.
-    #[tactic(auto, using(crate::proofs::Parted::rest_at))]
+    #[tactic(auto, using(crate::proofs::Shares::rest_at))]
     fn first_largest(&self) -> usize
         ensures place { result ≡ first_largest (rests_of self.now.shares) }
         ensures inside { result < 16 }
@@ -78,7 +88,7 @@ impl Parting {
     }
 
     // One lot more to the largest remainder, which is then spent.
-    #[tactic(auto, using(crate::proofs::Parted::giving))]
+    #[tactic(auto, using(crate::proofs::Shares::giving))]
     fn give_one(&mut self)
         requires { 0 < self.old.lots }
         ensures given { awards_of self.new.shares ≡ slice_set (awards_of self.old.shares) (first_largest (rests_of self.old.shares)) (slice_index (awards_of self.old.shares) (first_largest (rests_of self.old.shares)) + 1) }
@@ -95,7 +105,7 @@ impl Parting {
     }
 
     // The lots still to be given, one each.
-    #[tactic(auto, using(crate::proofs::Parted::one_more))]
+    #[tactic(auto, using(crate::proofs::Shares::one_more))]
     fn one_each(mut self) -> [u32; 16]
         ensures { result ≡ one_each self.lots (rests_of self.shares) (awards_of self.shares) }
     {
