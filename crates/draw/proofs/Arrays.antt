@@ -1,7 +1,7 @@
 -- An array that a closure made, each element of another, or each of its place.
 use Rattle.std.proofs.Common.{◌≡◌, ℕ, zero, suc, ◌+◌, ◌<◌, List, [], ◌∷◌, map, length, get_or, sym, subst, ◌∙◌, arith}
 use Rattle.std.proofs.lemmas.List.{ext_get_or, get_or-map, length-map}
-use Rattle.std.specs.Array.{IsFromFnResultFrom, IsMapOf, MapsFrom, list_steps}
+use Rattle.std.specs.Array.{IsFromFnResult, IsFromFnResultFrom, IsMapOf, MapsFrom, list_steps}
 use Rattle.std.specs.Fn.{Mut}
 use Rattle.std.specs.Iterator.{ActsAs, CallableAtEachTurn, Yields}
 use Rattle.std.specs.List.{FoldsTo}
@@ -40,6 +40,11 @@ module _ {F B : Type 0} (g : Mut F (ℕ × Unit {0}) B) (h : ℕ → B) (f : F) 
       cc
   made_at i (suc n) (suc j) k e l at m =
       made_at (i + 1) n j k e (omega arith) (omega arith) (subst (λ q. IsFromFnResultFrom g q ys (i + 1) n) (each i m.1 m.0 m.3).0 m.4)
+
+-- a map of a list, place by place
+pub made_map : {F A B : Type 0} (g : Mut F (ℕ × Unit {0}) B) (h : A → B) (f : F) (d : A) → (xs : List A) (ys : List B) (n : ℕ) → ActsAs g f (λ k. h (get_or xs k d)) → length xs ≡ n → IsFromFnResult g f ys n → ys ≡ map h xs
+made_map g h f d xs ys n each long m =
+    is_map h d xs ys (m.long ∙ sym long) (λ k inside. made_at g (λ j. h (get_or xs j d)) f each ys 0 n k k (h d) (omega arith) (omega arith) m.each)
 
 -- a closure that each call leaves as it was may be called at each item, where it may be called at any
 module _ {A F : Type 0} (R : F → A → F → Type 0) (Q : F → A → Type 0) (f : F) (same : (x : A) (q : F) → R f x q → q ≡ f) where

@@ -73,7 +73,7 @@ impl Exercise {
         ensures demand { result.demand ≡ self.demand }
     {
         Exercise {
-            claims: self.claims.map(|claim| cut_to(claim, r)),
+            claims: std::array::from_fn(|k| cut_to(self.claims[k], r)),
             demand: self.demand,
         }
     }
