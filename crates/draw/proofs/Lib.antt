@@ -1,3 +1,4 @@
+pub mod AfterLast
 pub mod Arrays
 pub mod GoesRound
 pub mod Known
