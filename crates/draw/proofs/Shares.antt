@@ -13,10 +13,10 @@ abbrev nothing : Share
 nothing = record { award = 0; rest = 0 }
 
 module _ (shares : List Share) (k : ℕ) (inside : k < length shares) where
-  pub award_at : get_or (awards_of shares) k 0 ≡ (get_or shares k (record { award = 0; rest = 0 })).award
+  pub award_at : get_or (awards_of shares) k 0 ≡ (get_or shares k nothing).award
   award_at = get_or-map (λ share. share.award) shares k nothing 0 inside
 
-  pub rest_at : get_or (rests_of shares) k 0 ≡ (get_or shares k (record { award = 0; rest = 0 })).rest
+  pub rest_at : get_or (rests_of shares) k 0 ≡ (get_or shares k nothing).rest
   rest_at = get_or-map (λ share. share.rest) shares k nothing 0 inside
 
 pub award_within : (shares : List Share) (k : ℕ) → k < length shares → (get_or shares k nothing).award ≤ total (awards_of shares)

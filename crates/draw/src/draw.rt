@@ -10,7 +10,7 @@ pub trait Draw {
 
     ghost next: { Self → List ℕ → ℕ → Self };
 
-    // One award for each claim of an exercise as it is read.
+    // One award for each claim of an exercise, which stands as a draw reads it.
     fn consult(&mut self, exercise: Exercise) -> [u32; 16]
         ensures awarded { result ≡ awards self.old exercise.claims exercise.demand }
         ensures moved { self.new ≡ next self.old exercise.claims exercise.demand };
