@@ -1,10 +1,11 @@
 -- The wheel serves accounts in turn, and its place follows the last one awarded.
-use Rattle.std.proofs.Common.{◌≡◌, ℕ, zero, suc, ◌+◌, ◌-◌, ◌<◌, ◌≤◌, cond, ◌⊎◌, List, [], ◌∷◌, length, get_or, take, drop, sym, refl, ap, ◌∙◌, inl, inr, ⊎_elim, arith}
+use Rattle.std.proofs.Common.{◌≡◌, ℕ, zero, suc, ◌+◌, ◌-◌, ◌<◌, ◌≤◌, ◌⊎◌, List, [], ◌∷◌, length, get_or, take, drop, sym, refl, ap, ◌∙◌, inl, inr, ⊎_elim, arith}
 use Rattle.std.proofs.lemmas.List.{get_or_append_left, get_or-append_right, get_or-drop, get_or-take, length-drop, length-take, take-append-drop}
-use Rattle.std.proofs.lemmas.Bool.{cases_lt, ne_eqb}
+use Rattle.std.proofs.lemmas.Bool.{cases_lt}
 use Rattle.measures.specs.Sums.{total}
-use Rattle.measures.proofs.Sums.{entry_within, total-append}
+use Rattle.measures.proofs.Sums.{entry_stands, entry_within, total-append}
 use Rattle.draw.specs.Wheel.{Follows, InTurn, WheelGoesRound, after_last, filled, next_place, wheel_awards}
+use Rattle.draw.proofs.AfterLast.{after_none, after_some}
 use Rattle.draw.specs.Turning.{length-filled, wheel_fair}
 
 filled_none : (cs : List ℕ) (demand k : ℕ) → demand ≡ 0 → get_or (filled cs demand) k 0 ≡ 0
@@ -69,57 +70,59 @@ module _ (place : ℕ) (claims : List ℕ) (demand : ℕ) (inside : place < 16) 
 none_within : (xs : List ℕ) → total xs ≡ 0 → (k : ℕ) → get_or xs k 0 ≡ 0
 none_within xs h k = omega (arith, entry_within xs k)
 
--- the last entry of a list that is not nought, if there is one, tells the place after it
-pub record Latest (xs : List ℕ) (account next : ℕ) : Type 0 where
+-- the last entry of a list that is not nought
+pub record Latest (xs : List ℕ) : Type 0 where
   pub index : ℕ
-  pub inside : index < length xs
   pub some : 0 < get_or xs index 0
   pub last : (k : ℕ) → index < k → get_or xs k 0 ≡ 0
-  pub after : next ≡ account + index + 1
 
-latest : (place account : ℕ) (xs : List ℕ) → ((total xs ≡ 0) × (after_last place account xs ≡ place)) ⊎ Latest xs account (after_last place account xs)
-latest place account [] = inl (refl, refl)
-latest place account (zero ∷ xs) =
-    elim (latest place (account + 1) xs) [
-      | inl e ↦ inl (omega arith, e.1)
-      | inr l ↦ inr (record { index = suc l.index; inside = omega (arith, l.inside); some = l.some; last = later l; after = omega (arith, l.after) })
+latest : (xs : List ℕ) → (total xs ≡ 0) ⊎ Latest xs
+latest [] = inl refl
+latest (x ∷ xs) =
+    elim (latest xs) [
+      | inl none ↦ ⊎_elim
+          (λ some. inr (record { index = 0; some = some; last = alone none }))
+          (λ x-none. inl (omega arith))
+          (cases_lt 0 x)
+      | inr l ↦ inr (record { index = suc l.index; some = l.some; last = later l })
     ]
   where
-    later : (l : Latest xs (account + 1) (after_last place (account + 1) xs)) (k : ℕ) → suc l.index < k → get_or (zero ∷ xs) k 0 ≡ 0
-    later l zero h = refl
-    later l (suc k) h = l.last k (omega arith)
-latest place account (suc x ∷ xs) =
-    let step : after_last place account (suc x ∷ xs) ≡ after_last (account + 1) (account + 1) xs = ap (λ b. after_last (cond b place (account + 1)) (account + 1) xs) (ne_eqb (suc x) 0 (λ e. omega arith)) in
-    inr (⊎_elim
-    (λ e. record { index = 0; inside = omega arith; some = omega arith; last = alone e.0; after = omega (arith, e.1) })
-    (λ l. record { index = suc l.index; inside = omega (arith, l.inside); some = l.some; last = later l; after = omega (arith, l.after) })
-    (latest (account + 1) (account + 1) xs))
-  where
-    alone : total xs ≡ 0 → (k : ℕ) → 0 < k → get_or (suc x ∷ xs) k 0 ≡ 0
-    alone e zero h = absurd (omega arith)
-    alone e (suc k) h = none_within xs e k
+    alone : total xs ≡ 0 → (k : ℕ) → 0 < k → get_or (x ∷ xs) k 0 ≡ 0
+    alone none zero h = absurd (omega arith)
+    alone none (suc k) h = none_within xs none k
 
-    later : (l : Latest xs (account + 1) (after_last (account + 1) (account + 1) xs)) (k : ℕ) → suc l.index < k → get_or (suc x ∷ xs) k 0 ≡ 0
+    later : (l : Latest xs) (k : ℕ) → suc l.index < k → get_or (x ∷ xs) k 0 ≡ 0
     later l zero h = absurd (omega arith)
     later l (suc k) h = l.last k (omega arith)
 
 module _ (place : ℕ) (awards : List ℕ) (inside : place < 16) (long : length awards ≡ 16) where
+  abbrev front : List ℕ
+  front = take place awards
+
+  abbrev back : List ℕ
+  back = drop place awards
+
   -- an account before the place was awarded: the last of these was the last
-  by_before : Latest (take place awards) 0 (after_last (after_last place place (drop place awards)) 0 (take place awards)) → Follows place awards (next_place place awards)
+  by_before : Latest front → Follows place awards (next_place place awards)
   by_before l =
-      let k-in : l.index < place = omega (arith, l.inside, length-take place awards) in
+      let k-in : l.index < place = omega (arith, entry_stands front l.index l.some, length-take place awards) in
       let some : 0 < get_or awards l.index 0 = omega (arith, l.some, below awards place l.index k-in) in
+      let after = after_some (after_last place place back) 0 front l.index l.some (λ k h _. l.last k h) in
       record {
         stays = λ none. absurd (omega (arith, entry_within awards l.index));
-        follows = λ _. (l.index, omega arith, some, λ k h later. sym (below awards place k (omega arith)) ∙ l.last k (omega arith), omega (arith, l.after));
+        follows = λ _. (l.index, omega arith, some, λ k h later. sym (below awards place k (omega arith)) ∙ l.last k (omega arith), omega arith);
       }
 
-  module _ (none_before : total (take place awards) ≡ 0) (after : after_last (after_last place place (drop place awards)) 0 (take place awards) ≡ after_last place place (drop place awards)) where
+  module _ (none_before : total front ≡ 0) where
+    before : after_last (after_last place place back) 0 front ≡ after_last place place back
+    before = after_none (after_last place place back) 0 front (λ k _. none_within front none_before k)
+
     -- only accounts from the place on were awarded
-    by_on : Latest (drop place awards) place (after_last place place (drop place awards)) → Follows place awards (next_place place awards)
+    by_on : Latest back → Follows place awards (next_place place awards)
     by_on l =
-        let k-in : place + l.index < 16 = omega (arith, l.inside, length-drop place awards) in
+        let k-in : place + l.index < 16 = omega (arith, entry_stands back l.index l.some, length-drop place awards) in
         let some : 0 < get_or awards (place + l.index) 0 = omega (arith, l.some, get_or-drop place awards l.index 0) in
+        let after = after_some place place back l.index l.some (λ k h _. l.last k h) in
         record {
           stays = λ none. absurd (omega (arith, entry_within awards (place + l.index)));
           follows = λ _. (
@@ -127,24 +130,21 @@ module _ (place : ℕ) (awards : List ℕ) (inside : place < 16) (long : length 
             k-in,
             some,
             λ k h later. ⊎_elim
-                (λ b. sym (below awards place k b) ∙ none_within (take place awards) none_before k)
+                (λ b. sym (below awards place k b) ∙ none_within front none_before k)
                 (λ p. sym (above awards place k p) ∙ l.last (k - place) (omega arith))
                 (cases_lt k place),
-            omega (arith, l.after),
+            omega (arith, before),
           );
         }
 
-    by_none : total (drop place awards) ≡ 0 → after_last place place (drop place awards) ≡ place → Follows place awards (next_place place awards)
-    by_none none-on stay = record {
-      stays = λ _. omega arith;
-      follows = λ some. absurd (omega (arith, ap total (take-append-drop place awards), total-append (take place awards) (drop place awards)));
+    by_none : total back ≡ 0 → Follows place awards (next_place place awards)
+    by_none none_on = record {
+      stays = λ _. omega (arith, before, after_none place place back (λ k _. none_within back none_on k));
+      follows = λ some. absurd (omega (arith, ap total (take-append-drop place awards), total-append front back));
     }
 
   next_follows : Follows place awards (next_place place awards)
-  next_follows = ⊎_elim
-      (λ b. ⊎_elim (λ o. by_none b.0 b.1 o.0 o.1) (by_on b.0 b.1) (latest place place (drop place awards)))
-      by_before
-      (latest (after_last place place (drop place awards)) 0 (take place awards))
+  next_follows = ⊎_elim (λ none. ⊎_elim (by_none none) (by_on none) (latest back)) by_before (latest front)
 
 pub wheel_goes_round : WheelGoesRound
 wheel_goes_round place claims demand inside long = record {

@@ -1,17 +1,17 @@
 -- Each lot drawn is one of an account that has lots left.
-use Rattle.std.specs.Prelude.{◌≡◌, ℕ, zero, suc, ◌+◌, ◌-◌, ◌/◌, ◌^◌, ◌<◌, ◌≤◌, min, List, [], ◌∷◌, length, take, nat_lt, slice_index, slice_index_or, refl}
-use Rattle.std.proofs.Common.{sym, ap, ◌∙◌, inl, inr, arith}
+use Rattle.std.specs.Prelude.{◌≡◌, ℕ, zero, suc, ◌+◌, ◌-◌, ◌/◌, ◌^◌, ◌<◌, ◌≤◌, min, List, [], ◌∷◌, length, nat_lt, slice_index, slice_index_or, refl}
+use Rattle.std.proofs.Common.{ap, ◌∙◌, inl, inr, arith}
 use Rattle.std.proofs.lemmas.Nat.{mod_below}
-use Rattle.std.proofs.lemmas.List.{take_all, get_or-set_same, get_or-set_other, length-set}
-use Rattle.std.proofs.lemmas.Bool.{cases_eq, cases_lt, cond_both, cond-true, cond-false, lt-ltb, le-ltb, ltb-true, ltb-false}
+use Rattle.std.proofs.lemmas.List.{get_or-set_same, get_or-set_other, length-set}
+use Rattle.std.proofs.lemmas.Bool.{cases_eq, cond_both, ltb-true, ltb-false}
 use Rattle.measures.specs.Sums.{total}
 use Rattle.measures.proofs.Sums.{entry_stands, total-set}
 use Rattle.draw.specs.Fair.{Fair}
-use Rattle.draw.specs.Lottery.{TicketOf, TicketsSharedOut, falls_on, left_after, lottery_awards, one_less, drawn, stepped, ticket}
+use Rattle.draw.specs.Lottery.{TicketOf, falls_on, left_after, lottery_awards, one_less, drawn, stepped, ticket}
 use Rattle.draw.specs.Tables.{length-less, get_or-less, total-less}
 
 -- a ticket is one of the account that it falls on
-of_one : (left : List ℕ) (t : ℕ) → t < total left → TicketOf left (falls_on left t) t
+pub of_one : (left : List ℕ) (t : ℕ) → t < total left → TicketOf left (falls_on left t) t
 of_one [] t h = absurd (omega arith)
 of_one (lots ∷ rest) t h =
     cond_both (nat_lt t lots) 0 (suc (falls_on rest (t - lots))) (λ account. TicketOf (lots ∷ rest) account t)
@@ -20,25 +20,6 @@ of_one (lots ∷ rest) t h =
     let past = ltb-false t lots e in
     let there = of_one rest (t - lots) (omega arith) in
     record { from = omega (arith, there.from); below = omega (arith, there.below) })
-
-of_no_other : (left : List ℕ) (account t : ℕ) → TicketOf left account t → falls_on left t ≡ account
-of_no_other [] zero t h = absurd (omega (arith, h.below))
-of_no_other [] (suc account) t h = absurd (omega (arith, h.below))
-of_no_other (lots ∷ rest) zero t h = cond-true (nat_lt t lots) _ _ (lt-ltb t lots (omega (arith, h.below)))
-of_no_other (lots ∷ rest) (suc account) t h =
-    cond-false (nat_lt t lots) _ _ (le-ltb t lots (omega (arith, h.from)))
-    ∙ ap suc (of_no_other rest account (t - lots) (record { from = omega (arith, h.from); below = omega (arith, h.from, h.below) }))
-
-pub tickets_shared_out : TicketsSharedOut
-tickets_shared_out left = record { of_one = of_one left; of_no_other = of_no_other left }
-
--- an account is in the list where there are lots from it on
-pub front_inside : (xs : List ℕ) (k : ℕ) → total (take k xs) < total xs → k < length xs
-front_inside xs k h = elim (cases_lt k (length xs)) [ inl l ↦ l | inr m ↦ absurd (omega (arith, ap total (take_all k xs m))) ]
-
--- a ticket less those of the accounts before is below the lots of the account that it falls on
-pub found : (left : List ℕ) (account rest t : ℕ) → total (take account left) + rest ≡ t → rest < slice_index left account → account ≡ falls_on left t
-found left account rest t h below = sym (of_no_other left account t (record { from = omega arith; below = omega arith }))
 
 -- what so many lots drawn leave
 pub record Drawn (lots : ℕ) (left after : List ℕ) : Type 0 where

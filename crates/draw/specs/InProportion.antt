@@ -1,16 +1,16 @@
 -- Pro rata is fair, and in proportion.
 use Rattle.std.specs.Prelude.{◌≡◌, ℕ, zero, suc, ◌+◌, ◌-◌, ◌*◌, ◌/◌, ◌%◌, ◌<◌, ◌≤◌, ◌⊎◌, List, [], ◌∷◌, map, length, ◌≢◌, nat_lt, slice_index, slice_index_or, slice_set, refl}
-use Rattle.std.proofs.Common.{sym, ap, subst, ◌∙◌, inl, inr, ⊎_elim, arith, mod-lt, mul-add, mul_comm, mul-suc, mul-le-mul_right}
+use Rattle.std.proofs.Common.{sym, ap, ◌∙◌, inl, inr, ⊎_elim, arith, mod-lt, mul-add, mul_comm, mul-suc, mul-le-mul_right}
 use Rattle.std.proofs.Math.Nat.{div-add-mod, mul-sub, le_of_mul-le-mul_left, lt_of_mul-lt-mul_left}
 use Rattle.std.proofs.lemmas.List.{get_or-set_same, get_or-set_other, length-set, length-map}
-use Rattle.std.proofs.lemmas.Bool.{cases_lt, cases_eq, cases_order, cond_both, cond-true, lt-ltb, ltb-true, ltb-false}
+use Rattle.std.proofs.lemmas.Bool.{cases_lt, cases_eq, cond_both, ltb-true, ltb-false}
 use Rattle.measures.specs.Sums.{total}
 use Rattle.measures.proofs.Sums.{entry_stands, total-set, total_within}
 use Rattle.draw.specs.Fair.{Fair}
-use Rattle.draw.specs.ProRata.{Before, Proportional, ProRataSpreads, first_largest, one_each, parts, pro_rata, remainders}
+use Rattle.draw.specs.ProRata.{Before, first_largest, one_each, parts, pro_rata, remainders}
 
 -- the first largest entry is the largest
-largest : (xs : List ℕ) (k : ℕ) → slice_index xs k ≤ slice_index xs (first_largest xs)
+pub largest : (xs : List ℕ) (k : ℕ) → slice_index xs k ≤ slice_index xs (first_largest xs)
 largest [] k = omega arith
 largest (x ∷ xs) zero =
     let y = slice_index_or xs (first_largest xs) 0 in
@@ -21,7 +21,7 @@ largest (x ∷ xs) (suc k) =
     cond_both (nat_lt x y) (suc (first_largest xs)) 0 (λ f. slice_index xs k ≤ slice_index (x ∷ xs) f) (λ e. below) (λ e. omega (arith, ltb-false x y e))
 
 -- and those before it are smaller
-first : (xs : List ℕ) (k : ℕ) → k < first_largest xs → slice_index xs k < slice_index xs (first_largest xs)
+pub first : (xs : List ℕ) (k : ℕ) → k < first_largest xs → slice_index xs k < slice_index xs (first_largest xs)
 first [] k h = absurd (omega arith)
 first (x ∷ xs) zero h =
     let y = slice_index_or xs (first_largest xs) 0 in
@@ -34,31 +34,12 @@ some_largest : (xs : List ℕ) → 0 < total xs → 0 < slice_index xs (first_la
 some_largest xs h =
     ⊎_elim (λ p. p) (λ none. absurd (omega (arith, total_within 0 xs (λ k. omega (arith, largest xs k))))) (cases_lt 0 (slice_index xs (first_largest xs)))
 
--- a place that is the largest, and the first such, is the first largest
-pub is_first_largest : (xs : List ℕ) (n : ℕ) → ((k : ℕ) → k < length xs → slice_index xs k ≤ slice_index xs n) → ((k : ℕ) → k < n → slice_index xs k < slice_index xs n) → n ≡ first_largest xs
-is_first_largest xs n all-below before =
-    let f = first_largest xs in
-    ⊎_elim (λ e. e)
-    (⊎_elim
-    (λ h. let larger = first xs n h in absurd (omega (arith, all-below f (entry_stands xs f (omega arith)))))
-    (λ h. absurd (omega (arith, before f h, largest xs n))))
-    (cases_order n f)
-
 -- what a turn leaves of the rests, and makes of the awards
-abbrev spent : List ℕ → List ℕ
+abbrev pub spent : List ℕ → List ℕ
 spent rests = slice_set rests (first_largest rests) 0
 
-abbrev lot_more : List ℕ → List ℕ → List ℕ
+abbrev pub lot_more : List ℕ → List ℕ → List ℕ
 lot_more rests awards = slice_set awards (first_largest rests) (slice_index awards (first_largest rests) + 1)
-
-pub one_more : (lots n : ℕ) (rests awards : List ℕ) → n < lots → one_each (lots - n) rests awards ≡ one_each (lots - (n + 1)) (spent rests) (lot_more rests awards)
-one_more lots n rests awards h =
-    let e : lots - n ≡ suc (lots - (n + 1)) = omega arith in ap (λ left. one_each left rests awards) e
-
-pub one_higher : (xs : List ℕ) (i : ℕ) → total (slice_set xs i (slice_index xs i + 1)) ≤ total xs + 1
-one_higher [] i = omega arith
-one_higher (x ∷ xs) zero = omega arith
-one_higher (x ∷ xs) (suc i) = omega (arith, one_higher xs i)
 
 -- a part, t times, and its remainder come to d times the claim
 share : (d t : ℕ) (xs : List ℕ) (k : ℕ) → t * slice_index (map (λ x. d * x / t) xs) k + slice_index (map (λ x. d * x % t) xs) k ≡ d * slice_index xs k
@@ -96,13 +77,13 @@ Got ps rs rests awards k =
     ⊎ ((slice_index awards k ≡ slice_index ps k + 1) × (slice_index rests k ≡ 0) × (0 < slice_index rs k))
 
 -- while so many lots are left to give, over the parts and the remainders of a division by t
-record Giving (t demand : ℕ) (ps rs : List ℕ) (lots : ℕ) (rests awards : List ℕ) : Type 0 where
-  long_rests : length rests ≡ length ps
-  long_awards : length awards ≡ length ps
-  whole : total awards + lots ≡ demand
-  enough : t * lots ≤ total rests
-  each : (k : ℕ) → Got ps rs rests awards k
-  in_turn : (j k : ℕ) → Before rs j k → slice_index ps k < slice_index awards k → slice_index ps j < slice_index awards j
+pub record Giving (t demand : ℕ) (ps rs : List ℕ) (lots : ℕ) (rests awards : List ℕ) : Type 0 where
+  pub long_rests : length rests ≡ length ps
+  pub long_awards : length awards ≡ length ps
+  pub whole : total awards + lots ≡ demand
+  pub enough : t * lots ≤ total rests
+  pub each : (k : ℕ) → Got ps rs rests awards k
+  pub in_turn : (j k : ℕ) → Before rs j k → slice_index ps k < slice_index awards k → slice_index ps j < slice_index awards j
 
 -- one turn
 module _ (t demand : ℕ) (ps rs : List ℕ) (lots : ℕ) (rests awards : List ℕ) (below : (k : ℕ) → slice_index rs k < t) (g : Giving t demand ps rs (suc lots) rests awards) where
@@ -183,7 +164,7 @@ given t demand ps rs (suc lots) rests awards below g =
     given t demand ps rs lots (spent rests) (lot_more rests awards) below (turn t demand ps rs lots rests awards below g)
 
 -- of these claims, so many lots being left to give
-abbrev Shared : List ℕ → ℕ → ℕ → List ℕ → List ℕ → Type 0
+abbrev pub Shared : List ℕ → ℕ → ℕ → List ℕ → List ℕ → Type 0
 Shared claims demand lots rests awards = Giving (total claims) demand (parts claims demand) (remainders claims demand) lots rests awards
 
 module _ (claims : List ℕ) (demand : ℕ) (short : demand < total claims) where
@@ -200,7 +181,7 @@ module _ (claims : List ℕ) (demand : ℕ) (short : demand < total claims) wher
         in_turn = λ j k b more. absurd (omega arith);
       }
 
-  end : (left : List ℕ) × Shared claims demand 0 left (one_each (demand - total (parts claims demand)) (remainders claims demand) (parts claims demand))
+  pub end : (left : List ℕ) × Shared claims demand 0 left (one_each (demand - total (parts claims demand)) (remainders claims demand) (parts claims demand))
   end = given _ _ _ _ _ _ _ (λ k. remainder_below demand (total claims) claims k (omega arith)) start
 
   fair_given : (left awards : List ℕ) → Shared claims demand 0 left awards → Fair claims demand awards
@@ -217,14 +198,6 @@ module _ (claims : List ℕ) (demand : ℕ) (short : demand < total claims) wher
         whole = omega arith;
       }
 
-  proportional_given : (left awards : List ℕ) → Shared claims demand 0 left awards → Proportional claims demand awards
-  proportional_given left awards g =
-      record {
-        least = λ k. ⊎_elim (λ p. omega arith) (λ q. omega arith) (g.each k);
-        most = λ k. ⊎_elim (λ p. omega arith) (λ q. omega arith) (g.each k);
-        by_remainder = g.in_turn;
-      }
-
 pub pro_rata_fair : (claims : List ℕ) (demand : ℕ) → Fair claims demand (pro_rata claims demand)
 pro_rata_fair claims demand =
     cond_both (nat_lt demand (total claims)) _ claims (Fair claims demand)
@@ -233,9 +206,3 @@ pro_rata_fair claims demand =
     let last = end claims demand short in
     fair_given claims demand short last.0 _ last.1)
     (λ e. record { each_claim = refl; within = λ k. omega arith; whole = omega (arith, ltb-false demand (total claims) e) })
-
-pub pro_rata_proportional : ProRataSpreads
-pro_rata_proportional claims demand short =
-    let last = end claims demand short in
-    let below = cond-true (nat_lt demand (total claims)) _ claims (lt-ltb demand (total claims) short) in
-    subst (Proportional claims demand) (sym below) (proportional_given claims demand short last.0 _ last.1)

@@ -3,6 +3,7 @@ pub mod Fair
 pub mod Lottery
 pub mod ProRata
 pub mod Rounds
+pub mod Shares
 pub mod Wheel
 pub mod Worked
 pub mod Chosen

@@ -1,15 +1,8 @@
--- Tables of claims: a map of another, less another, and as a draw reads them.
-use Rattle.std.specs.Prelude.{◌≡◌, ℕ, zero, suc, ◌+◌, ◌-◌, ◌<◌, ◌≤◌, List, [], ◌∷◌, map, length, slice_index, refl}
-use Rattle.std.proofs.Common.{sym, ap, ◌∙◌, arith}
-use Rattle.std.proofs.lemmas.List.{ext_get_or, get_or-map, length-map}
+-- Tables of claims: less another, and as a draw reads them.
+use Rattle.std.specs.Prelude.{◌≡◌, ℕ, zero, suc, ◌+◌, ◌-◌, ◌≤◌, List, [], ◌∷◌, length, slice_index, refl}
+use Rattle.std.proofs.Common.{ap, arith}
 use Rattle.measures.specs.Sums.{total}
 use Rattle.draw.specs.Fair.{Read, all_read, less, lots_read}
-
--- a list is a map where each entry is
-pub is_map : (f : ℕ → ℕ) (xs ys : List ℕ) → length ys ≡ length xs → ((k : ℕ) → k < length xs → slice_index ys k ≡ f (slice_index xs k)) → ys ≡ map f xs
-is_map f xs ys long each =
-    ext_get_or 0 ys (map f xs) (long ∙ sym (length-map xs f))
-    (λ k h. let inside : k < length xs = omega arith in each k inside ∙ sym (get_or-map f xs k 0 0 inside))
 
 pub length-less : (xs ys : List ℕ) → length (less xs ys) ≡ length xs
 length-less [] ys = refl

@@ -4,13 +4,14 @@ ghost use Rattle.draw.specs.Choice.{choice_awards, choice_next, lottery_at, plai
 ghost use Rattle.draw.specs.Chosen.{plain_fair, choice_fair};
 
 use crate::draw::Draw;
+use crate::exercise::Exercise;
 use crate::lottery::Lottery;
 use crate::pro_rata::ProRata;
 use crate::rounds::Rounds;
 use crate::wheel::Wheel;
 
 // A draw over no other.
-#[derive(Clone, Copy)]
+#[derive(Clone, Copy, Debug, PartialEq, Eq)]
 pub enum Plain {
     Wheel(Wheel),
     ProRata(ProRata),
@@ -44,25 +45,17 @@ impl Draw for Plain {
 
     ghost fair = { plain_fair };
 
-    fn award(&mut self, claims: [u32; 16], demand: u32) -> [u32; 16] {
-        match *self {
-            Plain::Wheel(mut draw) => {
-                let awards = draw.award(claims, demand);
-                *self = Plain::Wheel(draw);
-                awards
-            }
-            Plain::ProRata(mut draw) => draw.award(claims, demand),
-            Plain::Lottery(mut draw) => {
-                let awards = draw.award(claims, demand);
-                *self = Plain::Lottery(draw);
-                awards
-            }
+    fn consult(&mut self, exercise: Exercise) -> [u32; 16] {
+        match self {
+            Plain::Wheel(draw) => draw.consult(exercise),
+            Plain::ProRata(draw) => draw.consult(exercise),
+            Plain::Lottery(draw) => draw.consult(exercise),
         }
     }
 }
 
 // One of those, or rounds over it.
-#[derive(Clone, Copy)]
+#[derive(Clone, Copy, Debug, PartialEq, Eq)]
 pub enum Choice {
     Plain(Plain),
     InRounds(Rounds<Plain>),
@@ -83,18 +76,10 @@ impl Draw for Choice {
 
     ghost fair = { choice_fair };
 
-    fn award(&mut self, claims: [u32; 16], demand: u32) -> [u32; 16] {
-        match *self {
-            Choice::Plain(mut draw) => {
-                let awards = draw.award(claims, demand);
-                *self = Choice::Plain(draw);
-                awards
-            }
-            Choice::InRounds(mut draw) => {
-                let awards = draw.award(claims, demand);
-                *self = Choice::InRounds(draw);
-                awards
-            }
+    fn consult(&mut self, exercise: Exercise) -> [u32; 16] {
+        match self {
+            Choice::Plain(draw) => draw.consult(exercise),
+            Choice::InRounds(draw) => draw.consult(exercise),
         }
     }
 }

@@ -4,8 +4,8 @@
 ghost use Rattle.draw.specs.Worked.{Worked};
 
 mod choice;
-mod claims;
 mod draw;
+mod exercise;
 mod lottery;
 mod pro_rata;
 mod rounds;
@@ -13,6 +13,7 @@ mod wheel;
 
 pub use choice::{Choice, Plain};
 pub use draw::Draw;
+pub use exercise::Exercise;
 pub use lottery::{Lottery, tickets_shared_out};
 pub use pro_rata::{ProRata, pro_rata_spreads};
 pub use rounds::Rounds;

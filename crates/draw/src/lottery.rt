@@ -1,23 +1,51 @@
 // The lottery.
-ghost use Rattle.std.specs.Prelude.{◌≡◌, ◌<◌, ◌≤◌, slice_index};
-ghost use Rattle.draw.specs.Lottery.{TicketsSharedOut, drawn, falls_on, left_after, lottery_awards, lottery_next, stepped, ticket, x_after};
+ghost use Rattle.std.specs.Prelude.{◌≡◌, ◌-◌, ◌<◌, ◌≤◌, slice_index};
+ghost use Rattle.draw.specs.Lottery.{TicketsSharedOut, drawn, falls_on, left_after, lottery_awards, lottery_next, one_less, stepped, ticket, x_after};
 ghost use Rattle.measures.specs.Sums.{total};
 ghost use Rattle.draw.specs.Drawn.{lottery_fair};
 
-use crate::claims::{all_read, less, lots_read, sum};
 use crate::draw::Draw;
+use crate::exercise::{Exercise, less};
 
 // Draws each lot by a ticket from a 64-bit number.
-#[derive(Clone, Copy)]
+#[derive(Clone, Copy, Debug, PartialEq, Eq)]
 pub struct Lottery {
     x: u64,
 }
 
-impl Lottery {
-    pub fn at(x: u64) -> Lottery
-        ensures { result.x ≡ x }
+// What is left of the claims, and how many lots they are together.
+#[derive(Drop)]
+struct Undrawn {
+    claims: [u32; 16],
+    lots: u32,
+    ghost whole: { lots ≡ total claims },
+}
+
+impl Undrawn {
+    // The account that a ticket falls on.
+    #[tactic(auto, using(crate::proofs::Tickets::passing))]
+    fn falls_on(&self, mut ticket: u32) -> usize
+        requires { ticket < self.now.lots }
+        ensures account { result ≡ falls_on self.now.claims ticket }
+        ensures claimed { 0 < slice_index self.now.claims result }
     {
-        Lottery { x }
+        for (account, lots) in self.claims.iter().enumerate() {
+            if ticket < *lots {
+                return account;
+            }
+            ticket -= *lots;
+        }
+        unreachable!()
+    }
+
+    // One lot of the account is awarded.
+    #[tactic(auto, using(crate::proofs::Tickets::taking))]
+    fn take(&mut self, account: usize)
+        requires { 0 < slice_index self.old.claims account }
+        ensures { self.new.claims ≡ one_less self.old.claims account }
+    {
+        self.claims[account] -= 1;
+        self.lots -= 1;
     }
 }
 
@@ -36,45 +64,35 @@ fn ticket_of(x: u64, lots: u32) -> u32
     (x >> 32) as u32 % lots
 }
 
-// The account that a ticket falls on.
-fn falls_on(left: &[u32; 16], mut ticket: u32) -> usize
-    requires { ticket < total left.now }
-    ensures account { result ≡ falls_on left.now ticket }
-    ensures within { result < 16 }
-    ensures claimed { 0 < slice_index left.now result }
-{
-    let mut account = 0;
-    while ticket >= left[account] {
-        ticket -= left[account];
-        account += 1;
+impl Lottery {
+    pub fn at(x: u64) -> Lottery
+        ensures { result.x ≡ x }
+    {
+        Lottery { x }
     }
-    account
-}
 
-// Draws one of the lots left, and returns the x that drew it.
-fn draw_lot(x: u64, left: &mut [u32; 16], lots: u32) -> u64
-    requires whole { lots ≡ total left.old }
-    requires some { 0 < lots }
-    ensures moved { result ≡ stepped x }
-    ensures remaining { left.new ≡ drawn left.old (stepped x) }
-{
-    let next = step(x);
-    let account = falls_on(left, ticket_of(next, lots));
-    left[account] -= 1;
-    next
-}
-
-// Draws so many of all the lots left, and returns x after them.
-fn draw_lots(mut x: u64, left: &mut [u32; 16], all: u32, lots: u32) -> u64
-    requires whole { all ≡ total left.old }
-    requires enough { lots ≤ all }
-    ensures moved { result ≡ x_after lots x }
-    ensures remaining { left.new ≡ left_after lots x left.old }
-{
-    for k in 0..lots {
-        x = draw_lot(x, left, all - k);
+    // Draws one of the lots left.
+    fn draw_lot(&mut self, left: &mut Undrawn)
+        requires { 0 < left.old.lots }
+        ensures moved { self.new.x ≡ stepped self.old.x }
+        ensures remaining { left.new.claims ≡ drawn left.old.claims (stepped self.old.x) }
+    {
+        let next = step(self.x);
+        let account = left.falls_on(ticket_of(next, left.lots));
+        left.take(account);
+        self.x = next;
     }
-    x
+
+    // Draws so many of the lots left.
+    fn draw_lots(&mut self, left: &mut Undrawn, lots: u32)
+        requires { lots ≤ left.old.lots }
+        ensures moved { self.new.x ≡ x_after lots self.old.x }
+        ensures remaining { left.new.claims ≡ left_after lots self.old.x left.old.claims }
+    {
+        for _ in 0..lots {
+            self.draw_lot(left);
+        }
+    }
 }
 
 impl Draw for Lottery {
@@ -84,12 +102,12 @@ impl Draw for Lottery {
 
     ghost fair = { λ s. lottery_fair s.x };
 
-    fn award(&mut self, claims: [u32; 16], demand: u32) -> [u32; 16] {
-        let claims = all_read(claims);
-        let all = sum(claims);
-        let mut left = claims;
-        self.x = draw_lots(self.x, &mut left, all, lots_read(demand).min(all));
-        less(claims, left)
+    fn consult(&mut self, exercise: Exercise) -> [u32; 16] {
+        let claims = exercise.claims;
+        let lots = exercise.all();
+        let mut left = Undrawn { claims, lots };
+        self.draw_lots(&mut left, exercise.demand.min(lots));
+        less(claims, left.claims)
     }
 }
 

@@ -1,116 +1,118 @@
 // Pro rata.
-ghost use Rattle.std.specs.Prelude.{◌≡◌, ℕ, ◌+◌, ◌*◌, ◌/◌, ◌%◌, ◌<◌, ◌≤◌, slice_index, slice_set};
-ghost use Rattle.draw.specs.Fair.{Read};
+ghost use Rattle.std.specs.Prelude.{◌≡◌, ◌+◌, ◌-◌, ◌*◌, ◌/◌, ◌%◌, ◌<◌, ◌≤◌, slice_index, slice_set};
 ghost use Rattle.draw.specs.ProRata.{ProRataSpreads, first_largest, one_each, parts, pro_rata, remainders};
+ghost use Rattle.draw.specs.Shares.{awards_of, rests_of};
 ghost use Rattle.measures.specs.Sums.{total};
 ghost use Rattle.draw.specs.InProportion.{pro_rata_fair};
 
-use crate::claims::{all_read, lots_read, sum};
 use crate::draw::Draw;
+use crate::exercise::{Exercise, sum};
 
 // Parts the demand in proportion to the claims. It holds nothing.
-#[derive(Clone, Copy)]
+#[derive(Clone, Copy, Debug, PartialEq, Eq)]
 pub struct ProRata {}
 
-// A claim's part of the demand, rounded down.
-fn part(demand: u32, claim: u32, all: u32) -> u32
-    requires demand { demand ≤ 10_000 }
-    requires claim { claim ≤ 10_000 }
-    requires all { 0 < all }
-    ensures { result ≡ demand * claim / all }
-{
-    demand * claim / all
+// What an account is awarded, and the remainder by which it may be given a lot more.
+#[derive(Clone, Copy)]
+struct Share {
+    award: u32,
+    rest: u32,
 }
 
-// And the remainder of the division.
-fn remainder(demand: u32, claim: u32, all: u32) -> u32
-    requires demand { demand ≤ 10_000 }
-    requires claim { claim ≤ 10_000 }
-    requires all { 0 < all }
-    ensures { result ≡ demand * claim % all }
+// The awards of the shares.
+fn awards(shares: [Share; 16]) -> [u32; 16]
+    ensures { result ≡ awards_of shares }
 {
-    demand * claim % all
+    shares.map(|share| share.award)
 }
 
-// The place of the largest entry, of the first where several are as large.
-fn first_largest(rests: [u32; 16]) -> usize
-    ensures place { result ≡ first_largest rests }
-    ensures inside { result < 16 }
+// A claim's part of the demand, rounded down, and the remainder of the division.
+fn share_of(exercise: &Exercise, claim: u32, all: u32) -> Share
+    requires small { claim ≤ 10_000 }
+    requires some { 0 < all }
+    ensures award { result.award ≡ exercise.now.demand * claim / all }
+    ensures rest { result.rest ≡ exercise.now.demand * claim % all }
 {
-    let mut place = 0;
-    for k in 1..16 {
-        if rests[place] < rests[k] {
-            place = k;
+    let product = exercise.demand * claim;
+    Share {
+        award: product / all,
+        rest: product % all,
+    }
+}
+
+// The shares of all claims.
+fn shares(exercise: Exercise) -> [Share; 16]
+    requires { exercise.demand < total exercise.claims }
+    ensures parted { awards_of result ≡ parts exercise.claims exercise.demand }
+    ensures remaining { rests_of result ≡ remainders exercise.claims exercise.demand }
+    ensures within { total (awards_of result) ≤ exercise.demand }
+{
+    let all = exercise.all();
+    exercise.claims.map(|claim| share_of(&exercise, claim, all))
+}
+
+// The demand as it is parted: the shares of the accounts, and the lots still to be given.
+#[derive(Drop)]
+struct Parting {
+    shares: [Share; 16],
+    lots: u32,
+    ghost small: { total (awards_of shares) + lots ≤ 10_000 },
+}
+
+impl Parting {
+    // The lots that the parts leave are still to be given.
+    fn of(exercise: Exercise) -> Parting
+        requires { exercise.demand < total exercise.claims }
+        ensures parted { awards_of result.shares ≡ parts exercise.claims exercise.demand }
+        ensures remaining { rests_of result.shares ≡ remainders exercise.claims exercise.demand }
+        ensures lots { result.lots ≡ exercise.demand - total (parts exercise.claims exercise.demand) }
+    {
+        let shares = shares(exercise);
+        let lots = exercise.demand - sum(awards(shares));
+        Parting { shares, lots }
+    }
+
+    // The place of the largest remainder, of the first where several are as large.
+    #[tactic(auto, using(crate::proofs::Shares::rest_at))]
+    fn first_largest(&self) -> usize
+        ensures place { result ≡ first_largest (rests_of self.now.shares) }
+        ensures inside { result < 16 }
+    {
+        let mut place = 0;
+        for (k, share) in self.shares.iter().enumerate() {
+            if self.shares[place].rest < share.rest {
+                place = k;
+            }
         }
+        place
     }
-    place
-}
 
-// One lot more to the largest remainder, which is then spent.
-fn give_one(rests: &mut [u32; 16], awards: &mut [u32; 16])
-    requires { (k : ℕ) → slice_index awards.old k ≤ 10_000 }
-    ensures given { awards.new ≡ slice_set awards.old (first_largest rests.old) (slice_index awards.old (first_largest rests.old) + 1) }
-    ensures spent { rests.new ≡ slice_set rests.old (first_largest rests.old) 0 }
-{
-    let place = first_largest(*rests);
-    awards[place] += 1;
-    rests[place] = 0;
-}
-
-// So many lots more, one each.
-fn one_each(lots: u32, mut rests: [u32; 16], mut awards: [u32; 16]) -> [u32; 16]
-    requires { total awards + lots ≤ 10_000 }
-    ensures { result ≡ one_each lots rests awards }
-{
-    for _ in 0..lots {
-        give_one(&mut rests, &mut awards);
+    // One lot more to the largest remainder, which is then spent.
+    #[tactic(auto, using(crate::proofs::Shares::giving))]
+    fn give_one(&mut self)
+        requires { 0 < self.old.lots }
+        ensures given { awards_of self.new.shares ≡ slice_set (awards_of self.old.shares) (first_largest (rests_of self.old.shares)) (slice_index (awards_of self.old.shares) (first_largest (rests_of self.old.shares)) + 1) }
+        ensures spent { rests_of self.new.shares ≡ slice_set (rests_of self.old.shares) (first_largest (rests_of self.old.shares)) 0 }
+        ensures fewer { self.new.lots + 1 ≡ self.old.lots }
+    {
+        let place = self.first_largest();
+        let share = self.shares[place];
+        self.shares[place] = Share {
+            award: share.award + 1,
+            rest: 0,
+        };
+        self.lots -= 1;
     }
-    awards
-}
 
-// The parts of the claims, each rounded down.
-fn all_parts(mut claims: [u32; 16], demand: u32, all: u32) -> [u32; 16]
-    requires claims { Read claims }
-    requires demand { demand ≤ 10_000 }
-    requires all { all ≡ total claims }
-    requires some { 0 < all }
-    ensures parted { result ≡ parts claims demand }
-    ensures within { total result ≤ demand }
-    ensures read { Read result }
-{
-    for claim in claims.iter_mut() {
-        *claim = part(demand, *claim, all);
-    }
-    claims
-}
-
-// The remainders of the claims.
-fn all_remainders(mut claims: [u32; 16], demand: u32, all: u32) -> [u32; 16]
-    requires claims { Read claims }
-    requires demand { demand ≤ 10_000 }
-    requires all { all ≡ total claims }
-    requires some { 0 < all }
-    ensures { result ≡ remainders claims demand }
-{
-    for claim in claims.iter_mut() {
-        *claim = remainder(demand, *claim, all);
-    }
-    claims
-}
-
-// Every claim, or where the demand is below them all the demand in proportion.
-fn spread(claims: [u32; 16], demand: u32) -> [u32; 16]
-    requires claims { Read claims }
-    requires demand { demand ≤ 10_000 }
-    ensures { result ≡ pro_rata claims demand }
-{
-    let all = sum(claims);
-    if demand < all {
-        let parts = all_parts(claims, demand, all);
-        let lots = demand - sum(parts);
-        one_each(lots, all_remainders(claims, demand, all), parts)
-    } else {
-        claims
+    // The lots still to be given, one each.
+    #[tactic(auto, using(crate::proofs::Shares::one_more))]
+    fn one_each(mut self) -> [u32; 16]
+        ensures { result ≡ one_each self.lots (rests_of self.shares) (awards_of self.shares) }
+    {
+        while self.lots > 0 {
+            self.give_one();
+        }
+        awards(self.shares)
     }
 }
 
@@ -121,8 +123,13 @@ impl Draw for ProRata {
 
     ghost fair = { λ s claims demand. pro_rata_fair claims demand };
 
-    fn award(&mut self, claims: [u32; 16], demand: u32) -> [u32; 16] {
-        spread(all_read(claims), lots_read(demand))
+    // Every claim, or where the demand is below them all the demand in proportion.
+    fn consult(&mut self, exercise: Exercise) -> [u32; 16] {
+        if exercise.demand < exercise.all() {
+            Parting::of(exercise).one_each()
+        } else {
+            exercise.claims
+        }
     }
 }
 

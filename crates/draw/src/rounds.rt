@@ -1,17 +1,16 @@
 // Rounds over any draw.
 ghost use Rattle.std.specs.Prelude.{◌≡◌, ℕ, ◌≤◌, List, ⊤};
-ghost use Rattle.draw.specs.Fair.{Read};
 ghost use Rattle.draw.specs.Held.{rounds_fair};
-ghost use Rattle.draw.specs.Rounds.{Until, cut, round, rounds_awards, rounds_end, rounds_next, standing, used_up};
+ghost use Rattle.draw.specs.Rounds.{Until, round, rounds_awards, rounds_end, rounds_next, standing};
 ghost use Rattle.measures.specs.Ranges.{lots_measure, read_as};
 
-use crate::claims::{all_read, less, lots_read, sum, take_off};
 use crate::draw::Draw;
+use crate::exercise::{Exercise, less};
 use measures::Measure;
 use std::alloc::AllocError;
 
 // Puts the claims to the draw below in rounds of so many lots for each account.
-#[derive(Copy)]
+#[derive(Copy, Debug, PartialEq, Eq)]
 pub struct Rounds<D> {
     most: u32,
     below: D,
@@ -42,34 +41,14 @@ impl<D> Rounds<D> {
     }
 }
 
-// Every claim cut to r.
-fn cut(mut claims: [u32; 16], r: u32) -> [u32; 16]
-    ensures { result ≡ cut r claims }
-{
-    for claim in claims.iter_mut() {
-        *claim = (*claim).min(r);
-    }
-    claims
-}
-
-// Whether the demand or the claims are used up.
-fn used_up(left: [u32; 16], rest: u32) -> bool
-    requires { Read left }
-    ensures { result ≡ used_up left rest }
-{
-    rest == 0 || sum(left) == 0
-}
-
 impl<D: Draw> Rounds<D> {
-    // One round: its awards are taken off the claims, and the rest of the demand is told.
-    fn round(&mut self, left: &mut [u32; 16], rest: u32) -> u32
-        requires { Read left.old × (rest ≤ 10_000) }
-        ensures held { standing self.new.below left.new result ≡ round D.Draw.awards D.Draw.next self.old.most (standing self.old.below left.old rest) }
+    // One round: the cut claims are put to the draw below, and its awards are taken off the exercise.
+    fn round(&mut self, exercise: Exercise) -> Exercise
+        ensures held { standing self.new.below result.claims result.demand ≡ round D.Draw.awards D.Draw.next self.old.most (standing self.old.below exercise.claims exercise.demand) }
         ensures most { self.new.most ≡ self.old.most }
     {
-        let awards = self.below.award(cut(*left, self.most), rest);
-        take_off(left, awards);
-        rest - sum(awards)
+        let awards = self.below.consult(exercise.cut(self.most));
+        exercise.less(awards)
     }
 
     // Rounds are held until the demand or the claims are used up, and no longer: that is all it says.
@@ -85,13 +64,11 @@ impl<D: Draw> Draw for Rounds<D> {
 
     ghost fair = { λ s. rounds_fair D.Draw.awards D.Draw.next s.most s.some D.Draw.fair s.below };
 
-    fn award(&mut self, claims: [u32; 16], demand: u32) -> [u32; 16] {
-        let claims = all_read(claims);
-        let mut left = claims;
-        let mut rest = lots_read(demand);
-        while !used_up(left, rest) {
-            rest = self.round(&mut left, rest);
+    fn consult(&mut self, exercise: Exercise) -> [u32; 16] {
+        let mut left = exercise;
+        while !left.used_up() {
+            left = self.round(left);
         }
-        less(claims, left)
+        less(exercise.claims, left.claims)
     }
 }

@@ -5,11 +5,11 @@ ghost use Rattle.draw.specs.Turning.{wheel_fair};
 ghost use Rattle.draw.specs.Wheel.{WheelGoesRound, after_last, filled, next_place, wheel_awards};
 ghost use Rattle.measures.specs.Sums.{total};
 
-use crate::claims::{all_read, lots_read};
 use crate::draw::Draw;
+use crate::exercise::Exercise;
 
 // Fills claims from the account at its place on, going round.
-#[derive(Clone, Copy)]
+#[derive(Clone, Copy, Debug, PartialEq, Eq)]
 pub struct Wheel {
     place: usize,
     ghost inside: { place < 16 },
@@ -23,6 +23,25 @@ impl Wheel {
         Wheel {
             place: (place % 16) as usize,
         }
+    }
+
+    // The awards from the account at the place on, going round.
+    fn go_round(self, exercise: Exercise) -> [u32; 16]
+        ensures { result ≡ wheel_awards self.place exercise.claims exercise.demand }
+    {
+        let mut awards = exercise.claims;
+        let left = fill(&mut awards[self.place..], exercise.demand);
+        fill(&mut awards[..self.place], left);
+        awards
+    }
+
+    // The place that follows the last account awarded on the way round, or else this one.
+    fn next_place(self, awards: [u32; 16]) -> usize
+        ensures { result ≡ next_place self.place awards }
+    {
+        let (before, on) = awards.split_at(self.place);
+        let after = after_last(self.place, self.place, on);
+        after_last(after, 0, before) % 16
     }
 }
 
@@ -45,34 +64,10 @@ fn after_last(place: usize, account: usize, awards: &[u32]) -> usize
     requires { account + length awards.now ≤ 16 }
     ensures { result ≡ after_last place account awards.now }
 {
-    let mut after = place;
-    for (k, award) in awards.iter().enumerate() {
-        if *award > 0 {
-            after = account + k + 1;
-        }
+    match awards.iter().rposition(|award| *award > 0) {
+        Some(k) => account + k + 1,
+        None => place,
     }
-    after
-}
-
-// The awards from the account at the place on, going round.
-fn go_round(place: usize, claims: [u32; 16], demand: u32) -> [u32; 16]
-    requires { place < 16 }
-    ensures { result ≡ wheel_awards place claims demand }
-{
-    let mut awards = claims;
-    let left = fill(&mut awards[place..], demand);
-    fill(&mut awards[..place], left);
-    awards
-}
-
-// The place that follows the last account awarded on the way round, or else the place.
-fn next_place(place: usize, awards: [u32; 16]) -> usize
-    requires { place < 16 }
-    ensures { result ≡ next_place place awards }
-{
-    let (before, on) = awards.split_at(place);
-    let after = after_last(place, place, on);
-    after_last(after, 0, before) % 16
 }
 
 impl Draw for Wheel {
@@ -82,9 +77,9 @@ impl Draw for Wheel {
 
     ghost fair = { λ w. wheel_fair w.place };
 
-    fn award(&mut self, claims: [u32; 16], demand: u32) -> [u32; 16] {
-        let awards = go_round(self.place, all_read(claims), lots_read(demand));
-        self.place = next_place(self.place, awards);
+    fn consult(&mut self, exercise: Exercise) -> [u32; 16] {
+        let awards = self.go_round(exercise);
+        self.place = self.next_place(awards);
         awards
     }
 }

@@ -1,42 +1,60 @@
--- Arrays made by a closure that changes nothing: of each index, or of each element of another.
-use Rattle.std.proofs.Common.{◌≡◌, ℕ, zero, suc, ◌+◌, ◌<◌, ◌≤◌, List, map, length, get_or, refl, sym, ap, ◌∙◌, subst, inl, inr, arith}
-use Rattle.std.proofs.lemmas.Bool.{cases_order}
+-- An array that a closure made, each element of another, or each of its place.
+use Rattle.std.proofs.Common.{◌≡◌, ℕ, zero, suc, ◌+◌, ◌<◌, List, [], ◌∷◌, map, length, get_or, sym, subst, ◌∙◌, arith}
 use Rattle.std.proofs.lemmas.List.{ext_get_or, get_or-map, length-map}
-use Rattle.std.specs.Array.{IsFromFnResult, IsFromFnResultFrom, IsMapOf, MapsFrom}
-use Rattle.std.specs.Fn.{Called, Mut}
+use Rattle.std.specs.Array.{IsFromFnResult, IsFromFnResultFrom, IsMapOf, MapsFrom, list_steps}
+use Rattle.std.specs.Fn.{Mut}
+use Rattle.std.specs.Iterator.{ActsAs, CallableAtEachTurn, Yields}
+use Rattle.std.specs.List.{FoldsTo}
 
--- each call at the closure as it was made gives h of its argument, and leaves it as it was
-abbrev pub Gives : {F A B : Type 0} → Mut F (A × Unit {0}) B → F → (A → B) → Type 0
-Gives {F} {A} {B} g f h = (x : A) (y : B) (q : F) → Called g f (x, tt) y q → (q ≡ f) × (y ≡ h x)
+-- a list is a map where each entry is
+pub is_map : {A B : Type 0} (f : A → B) (d : A) (xs : List A) (ys : List B) → length ys ≡ length xs → ((k : ℕ) → k < length xs → get_or ys k (f d) ≡ f (get_or xs k d)) → ys ≡ map f xs
+is_map f d xs ys long each =
+    ext_get_or (f d) ys (map f xs) (long ∙ sym (length-map xs f))
+    (λ k h. let inside : k < length xs = omega arith in each k inside ∙ sym (get_or-map f xs k d (f d) inside))
 
-module _ {F B : Type 0} (g : Mut F (ℕ × Unit {0}) B) (f : F) (h : ℕ → B) (gives : Gives g f h) where
-  from_index : (ys : List B) (p : F) (i n : ℕ) → p ≡ f → IsFromFnResultFrom g p ys i n → (k : ℕ) (d : B) → i ≤ k → k < i + n → get_or ys k d ≡ h k
-  from_index ys p i zero s m k d low high = absurd (omega arith)
-  from_index ys p i (suc n) s m k d low high =
-      let here = gives i m.1 m.0 (subst (λ (r : F). Called g r (i, tt) m.1 m.0) s m.3) in
-      elim (cases_order i k) [
-        | inl same ↦ ap (λ j. get_or ys j d) (sym same) ∙ m.2.1 d ∙ here.1 ∙ ap h same
-        | inr (inl less) ↦ from_index ys m.0 (i + 1) n here.0 m.4 k d (omega arith) (omega arith)
-        | inr (inr more) ↦ absurd (omega arith)
-      ]
+module _ {F A B : Type 0} (g : Mut F (A × Unit {0}) B) (h : A → B) (f : F) (each : ActsAs g f h) (xs : List A) (ys : List B) where
+  mapped_at : (i n j k : ℕ) (d : A) (e : B) → j < n → k ≡ i + j → MapsFrom g f xs ys i n → get_or ys k e ≡ h (get_or xs k d)
+  mapped_at i zero j k d e l at m = absurd (omega arith)
+  mapped_at i (suc n) zero k d e l at m =
+      let here : k ≡ i = omega arith in
+      let x = m.3.1 d in
+      let y = m.4.1 e in
+      let call = (each m.1 m.2 m.0 m.5).1 in
+      cc
+  mapped_at i (suc n) (suc j) k d e l at m =
+      mapped_at (i + 1) n j k d e (omega arith) (omega arith) (subst (λ q. MapsFrom g q xs ys (i + 1) n) (each m.1 m.2 m.0 m.5).0 m.6)
 
-  -- the element at each index
-  pub made_at : (ys : List B) (n : ℕ) → IsFromFnResult g f ys n → (k : ℕ) (d : B) → k < n → get_or ys k d ≡ h k
-  made_at ys n m k d inside = from_index ys f 0 n refl m.each k d (omega arith) (omega arith)
+  -- a map of a list
+  pub mapped : (n : ℕ) (d : A) → length xs ≡ n → IsMapOf g f xs ys n → ys ≡ map h xs
+  mapped n d long m =
+      is_map h d xs ys (m.long ∙ sym long) (λ k inside. mapped_at 0 n k k d (h d) (omega arith) (omega arith) m.each)
 
-module _ {F A B : Type 0} (g : Mut F (A × Unit {0}) B) (f : F) (h : A → B) (gives : Gives g f h) where
-  from_place : (xs : List A) (ys : List B) (p : F) (i n : ℕ) → p ≡ f → MapsFrom g p xs ys i n → (k : ℕ) (d : A) (e : B) → i ≤ k → k < i + n → get_or ys k e ≡ h (get_or xs k d)
-  from_place xs ys p i zero s m k d e low high = absurd (omega arith)
-  from_place xs ys p i (suc n) s m k d e low high =
-      let here = gives m.1 m.2 m.0 (subst (λ (r : F). Called g r (m.1, tt) m.2 m.0) s m.5) in
-      elim (cases_order i k) [
-        | inl same ↦ ap (λ j. get_or ys j e) (sym same) ∙ m.4.1 e ∙ here.1 ∙ ap h (sym (m.3.1 d)) ∙ ap (λ j. h (get_or xs j d)) same
-        | inr (inl less) ↦ from_place xs ys m.0 (i + 1) n here.0 m.6 k d e (omega arith) (omega arith)
-        | inr (inr more) ↦ absurd (omega arith)
-      ]
+module _ {F B : Type 0} (g : Mut F (ℕ × Unit {0}) B) (h : ℕ → B) (f : F) (each : ActsAs g f h) (ys : List B) where
+  -- what is at each place
+  pub made_at : (i n j k : ℕ) (e : B) → j < n → k ≡ i + j → IsFromFnResultFrom g f ys i n → get_or ys k e ≡ h k
+  made_at i zero j k e l at m = absurd (omega arith)
+  made_at i (suc n) zero k e l at m =
+      let here : k ≡ i = omega arith in
+      let y = m.2.1 e in
+      let call = (each i m.1 m.0 m.3).1 in
+      cc
+  made_at i (suc n) (suc j) k e l at m =
+      made_at (i + 1) n j k e (omega arith) (omega arith) (subst (λ q. IsFromFnResultFrom g q ys (i + 1) n) (each i m.1 m.0 m.3).0 m.4)
 
-  -- the array of what it gives of each element
-  pub mapped : (d : A) (xs : List A) (ys : List B) (n : ℕ) → length xs ≡ n → IsMapOf g f xs ys n → ys ≡ map h xs
-  mapped d xs ys n long m =
-      ext_get_or (h d) ys (map h xs) (m.long ∙ sym long ∙ sym (length-map xs h))
-      (λ k inside. from_place xs ys f 0 n refl m.each k d (h d) (omega arith) (omega (arith, m.long)) ∙ sym (get_or-map h xs k d (h d) (omega (arith, m.long))))
+-- a map of a list, place by place
+pub made_map : {F A B : Type 0} (g : Mut F (ℕ × Unit {0}) B) (h : A → B) (f : F) (d : A) → (xs : List A) (ys : List B) (n : ℕ) → ActsAs g f (λ k. h (get_or xs k d)) → length xs ≡ n → IsFromFnResult g f ys n → ys ≡ map h xs
+made_map g h f d xs ys n each long m =
+    is_map h d xs ys (m.long ∙ sym long) (λ k inside. made_at g (λ j. h (get_or xs j d)) f each ys 0 n k k (h d) (omega arith) (omega arith) m.each)
+
+-- a closure that each call leaves as it was may be called at each item, where it may be called at any
+module _ {A F : Type 0} (R : F → A → F → Type 0) (Q : F → A → Type 0) (f : F) (same : (x : A) (q : F) → R f x q → q ≡ f) where
+  callable_at : (ys xs t : List A) (q : F) (x : A) (u : List A) → ((k : ℕ) → k < length xs → Q f (get_or xs k x)) → Yields list_steps xs ys t → FoldsTo R f ys q → t ≡ x ∷ u → Q q x
+  callable_at [] xs t q x u all yields folds next =
+      let front : xs ≡ x ∷ u = yields ∙ next in
+      subst (λ p. Q p x) folds (subst (λ zs. (k : ℕ) → k < length zs → Q f (get_or zs k x)) front all 0 (omega arith))
+  callable_at (y ∷ ys) xs t q x u all yields folds next =
+      let rest : (k : ℕ) → k < length (y ∷ yields.0) → Q f (get_or (y ∷ yields.0) k x) = subst (λ zs. (k : ℕ) → k < length zs → Q f (get_or zs k x)) yields.1 all in
+      callable_at ys yields.0 t q x u (λ k l. rest (suc k) (omega arith)) yields.2 (subst (λ p. FoldsTo R p ys q) (same y folds.0 folds.1) folds.2) next
+
+  pub callable : (xs : List A) → ((k : ℕ) (d : A) → k < length xs → Q f (get_or xs k d)) → CallableAtEachTurn list_steps R Q xs f
+  callable xs all = record { at = λ ys t q x u yields folds next. callable_at ys xs t q x u (λ k. all k x) yields folds next }

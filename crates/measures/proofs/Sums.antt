@@ -1,6 +1,7 @@
 -- Sums over the entries of a table, as the table changes.
-use Rattle.std.proofs.Common.{◌≡◌, ℕ, zero, suc, ◌+◌, ◌*◌, ◌<◌, ◌≤◌, List, [], ◌∷◌, ◌++◌, length, get_or, take, set, ap, suc-le-suc, le_of_suc-le-suc, arith}
+use Rattle.std.proofs.Common.{◌≡◌, ℕ, zero, suc, ◌+◌, ◌*◌, ◌<◌, ◌≤◌, List, [], ◌∷◌, ◌++◌, length, get_or, take, set, sum, sym, refl, ap, suc-le-suc, le_of_suc-le-suc, arith}
 use Rattle.std.proofs.lemmas.List.{take_more}
+use Rattle.std.proofs.lemmas.List.Recursion.{is_sum_by}
 use Rattle.measures.specs.Sums.{total}
 
 pub total-append : (xs ys : List ℕ) → total (xs ++ ys) ≡ total xs + total ys
@@ -32,3 +33,7 @@ entry_stands (x ∷ xs) (suc i) h = suc-le-suc (entry_stands xs i h)
 pub total_within : (m : ℕ) (xs : List ℕ) → ((k : ℕ) → get_or xs k 0 ≤ m) → total xs ≤ length xs * m
 total_within m [] each = omega arith
 total_within m (x ∷ xs) each = omega (arith, each 0, total_within m xs (λ k. each (suc k)))
+
+-- the library's sum is this one
+pub sum_is_total : (xs : List ℕ) → sum xs ≡ total xs
+sum_is_total xs = sym (is_sum_by total (λ x. x) refl (λ _ _. refl) xs)

@@ -1,4 +1,4 @@
-use Rattle.draw.specs.Drawn.{tickets_shared_out}
+use Rattle.draw.proofs.Tickets.{tickets_shared_out}
 use Rattle.draw.proofs.lottery.tickets_shared_out.Goals as goal
 
 pub returns : goal.returns

@@ -1,4 +1,4 @@
-use Rattle.draw.specs.InProportion.{pro_rata_proportional}
+use Rattle.draw.proofs.Proportion.{pro_rata_proportional}
 use Rattle.draw.proofs.pro_rata.pro_rata_spreads.Goals as goal
 
 pub returns : goal.returns

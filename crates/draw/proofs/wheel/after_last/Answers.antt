@@ -1,17 +1,17 @@
-use Rattle.std.proofs.Common.{◌≡◌, ◌+◌, cond, eqb, get_or, drop, sym, ◌∙◌, arith}
-use Rattle.std.proofs.lemmas.List.{at_drop_more, at_drop_all}
-use Rattle.std.proofs.lemmas.Bool.Decides.{nat_tests}
-use Rattle.draw.specs.Wheel.{after_last}
+use Rattle.std.proofs.Common.{ℕ, ◌<◌, ◌≤◌, length, get_or, sym, arith, rules}
+use Rattle.draw.proofs.AfterLast.{after_none, after_some}
 use Rattle.draw.proofs.wheel.after_last.Goals as goal
-use Rattle.draw.proofs.wheel.after_last.Goals.{then-award-gt0, else-award-gt0}
 
-pub loop-k-preserved : goal.loop-k-preserved
-loop-k-preserved c =
-    let place = c.loop-k.after in
-    let account = c.args.account + c.loop-k.k in
-    let awards = c.args.awards.now in
-    let more : after_last place account (drop c.loop-k.k awards) ≡ after_last (cond (eqb (get_or awards c.loop-k.k 0) 0) place (account + 1)) (account + 1) (drop (c.loop-k.k + 1) awards) = at_drop_more (after_last place account) awards c.loop-k.k 0 (omega arith) in
-    elim c.if-award-gt0.branch [ then-award-gt0 w ↦ grind (arith, nat_tests) | else-award-gt0 w ↦ grind (arith, nat_tests) ]
+pub returns-in-Some : goal.returns-in-Some
+returns-in-Some c =
+    let xs = c.args.awards.now in
+    let k = c.in-Some.k in
+    let some : 0 < get_or xs k 0 = search rules in
+    let none : (j : ℕ) → k < j → j < length xs → get_or xs j 0 ≤ 0 = search rules in
+    sym (after_some c.args.place c.args.account xs k some (λ j h l. omega (arith, none j h l)))
 
-pub returns : goal.returns
-returns c = sym (at_drop_all (after_last c.loop-k.after (c.args.account + c.loop-k.k)) c.args.awards.now c.loop-k.k (omega arith)) ∙ c.loop-k.invariant
+pub returns-in-None : goal.returns-in-None
+returns-in-None c =
+    let xs = c.args.awards.now in
+    let none : (j : ℕ) → j < length xs → get_or xs j 0 ≤ 0 = search rules in
+    sym (after_none c.args.place c.args.account xs (λ j l. omega (arith, none j l)))
