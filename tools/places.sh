@@ -5,9 +5,11 @@ set -eu
 cd "${1:-$(dirname "$0")/..}"
 sources=$(ls crates/*/src/*.rt)
 places() {
-    echo "== $1"
+    local found
     # shellcheck disable=SC2086
-    grep -nE "$2" $sources || true
+    found=$(grep -nE "$2" $sources || true)
+    echo "== $1: $(grep -c . <<< "$found")"
+    echo "$found"
 }
 places '1: an Option or a Result taken apart and put together again; an error made by hand' '^\s*(None => (None|Err\()|Err\(_\) => Err\()|return Err\(AllocError\)'
 places '1: numbers for kinds or refusals' 'fn \w+\(.*-> (Option<)?u8>? \{?$'

@@ -1,5 +1,5 @@
 -- The lottery: each lot awarded is drawn by a ticket.
-use Rattle.std.specs.Prelude.{◌≡◌, ℕ, zero, suc, ◌+◌, ◌-◌, ◌*◌, ◌/◌, ◌%◌, ◌^◌, ◌<◌, ◌≤◌, min, cond, List, [], ◌∷◌, take, nat_lt, slice_index, slice_set}
+use Rattle.std.specs.Prelude.{◌≡◌, ℕ, zero, suc, ◌+◌, ◌-◌, ◌*◌, ◌/◌, ◌%◌, ◌^◌, ◌<◌, ◌≤◌, min, if◌then◌else◌, List, [], ◌∷◌, take, nat_lt, slice_index, slice_set}
 use Rattle.measures.specs.Sums.{total}
 use Rattle.draw.specs.Fair.{less}
 
@@ -14,7 +14,7 @@ ticket x lots = x / 2 ^ 32 % lots
 -- tickets run through those lots in account order: the account that a ticket falls on
 abbrev pub falls_on : List ℕ → ℕ → ℕ
 falls_on [] ticket = 0
-falls_on (lots ∷ rest) ticket = cond (nat_lt ticket lots) 0 (suc (falls_on rest (ticket - lots)))
+falls_on (lots ∷ rest) ticket = if nat_lt ticket lots then 0 else suc (falls_on rest (ticket - lots))
 
 -- one lot of the account is awarded
 abbrev pub one_less : List ℕ → ℕ → List ℕ

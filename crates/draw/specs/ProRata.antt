@@ -1,5 +1,5 @@
 -- Pro rata: each claim's part of the demand, rounded down, and then one lot each by largest remainder.
-use Rattle.std.specs.Prelude.{◌≡◌, ℕ, zero, suc, ◌+◌, ◌-◌, ◌*◌, ◌/◌, ◌%◌, ◌<◌, ◌≤◌, cond, ◌⊎◌, List, [], ◌∷◌, map, nat_lt, slice_index, slice_set}
+use Rattle.std.specs.Prelude.{◌≡◌, ℕ, zero, suc, ◌+◌, ◌-◌, ◌*◌, ◌/◌, ◌%◌, ◌<◌, ◌≤◌, if◌then◌else◌, ◌⊎◌, List, [], ◌∷◌, map, nat_lt, slice_index, slice_set}
 use Rattle.measures.specs.Sums.{total}
 
 -- each claim's part of the demand, rounded down
@@ -13,7 +13,7 @@ remainders claims demand = map (λ claim. demand * claim % total claims) claims
 -- the place of the largest entry, of the first where several are as large
 abbrev pub first_largest : List ℕ → ℕ
 first_largest [] = 0
-first_largest (x ∷ xs) = cond (nat_lt x (slice_index xs (first_largest xs))) (suc (first_largest xs)) 0
+first_largest (x ∷ xs) = if nat_lt x (slice_index xs (first_largest xs)) then suc (first_largest xs) else 0
 
 -- so many lots more, each to the largest remainder, which is then spent
 abbrev pub one_each : ℕ → List ℕ → List ℕ → List ℕ
@@ -22,7 +22,7 @@ one_each (suc lots) rests awards = one_each lots (slice_set rests (first_largest
 
 -- a demand not below all claims awards every claim
 abbrev pub pro_rata : List ℕ → ℕ → List ℕ
-pro_rata claims demand = cond (nat_lt demand (total claims)) (one_each (demand - total (parts claims demand)) (remainders claims demand) (parts claims demand)) claims
+pro_rata claims demand = if nat_lt demand (total claims) then one_each (demand - total (parts claims demand)) (remainders claims demand) (parts claims demand) else claims
 
 -- one entry comes before another by its size, and of two as large by its place
 abbrev pub Before : List ℕ → ℕ → ℕ → Type 0

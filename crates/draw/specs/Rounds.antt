@@ -1,5 +1,5 @@
 -- Rounds of r, over any draw.
-use Rattle.std.specs.Prelude.{◌≡◌, ℕ, zero, suc, ◌-◌, min, Bool, true, false, cond, ◌||◌, List, map, ◌==◌}
+use Rattle.std.specs.Prelude.{◌≡◌, ℕ, zero, suc, ◌-◌, min, Bool, true, false, if◌then◌else◌, ◌||◌, List, map, ◌==◌}
 use Rattle.measures.specs.Sums.{total}
 use Rattle.draw.specs.Fair.{less}
 
@@ -38,7 +38,7 @@ round awards next r s = record {
 -- round after round until one of the two is used up; each awards a lot at least, so as many as the demand will do
 abbrev pub rounds : {D : Type 0} → Awards D → Next D → ℕ → ℕ → Standing D → Standing D
 rounds awards next r zero s = s
-rounds awards next r (suc n) s = cond (used_up s.left s.rest) s (rounds awards next r n (round awards next r s))
+rounds awards next r (suc n) s = if used_up s.left s.rest then s else rounds awards next r n (round awards next r s)
 
 abbrev pub rounds_end : {D : Type 0} → Awards D → Next D → ℕ → D → List ℕ → ℕ → Standing D
 rounds_end awards next r draw claims demand = rounds awards next r demand (standing draw claims demand)

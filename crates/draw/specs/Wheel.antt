@@ -1,5 +1,5 @@
 -- The wheel: claims filled from its place on, going round.
-use Rattle.std.specs.Prelude.{◌≡◌, ℕ, ◌+◌, ◌-◌, ◌%◌, ◌<◌, min, cond, List, [], ◌∷◌, ◌++◌, length, take, drop, ◌==◌, slice_index}
+use Rattle.std.specs.Prelude.{◌≡◌, ℕ, ◌+◌, ◌-◌, ◌%◌, ◌<◌, min, if◌then◌else◌, List, [], ◌∷◌, ◌++◌, length, take, drop, ◌==◌, slice_index}
 use Rattle.measures.specs.Sums.{total}
 
 -- one claim after another is filled, while the demand lasts
@@ -14,7 +14,7 @@ wheel_awards place claims demand = filled (take place claims) (demand - total (d
 -- the account after the last one awarded, where the awards begin with that of the account; the place where none was
 abbrev pub after_last : ℕ → ℕ → List ℕ → ℕ
 after_last place account [] = place
-after_last place account (a ∷ rest) = after_last (cond (a == 0) place (account + 1)) (account + 1) rest
+after_last place account (a ∷ rest) = after_last (if a == 0 then place else account + 1) (account + 1) rest
 
 -- the next place follows the last account awarded on the way round, or stays
 abbrev pub next_place : ℕ → List ℕ → ℕ

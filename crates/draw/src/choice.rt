@@ -28,7 +28,7 @@ impl Plain {
     pub fn pro_rata() -> Plain
         ensures { result ≡ pro_rata_draw }
     {
-        Plain::ProRata(ProRata {})
+        Plain::ProRata(ProRata)
     }
 
     pub fn lottery(x: u64) -> Plain

@@ -43,7 +43,8 @@ pub(crate) fn sum(lots: [u32; 16]) -> u32
 }
 
 impl Exercise {
-    pub(crate) fn read(claims: [u32; 16], demand: u32) -> Exercise
+    // The figures as a draw reads them.
+    pub fn read(claims: [u32; 16], demand: u32) -> Exercise
         ensures claims { result.claims ≡ all_read claims }
         ensures demand { result.demand ≡ lots_read demand }
     {

@@ -10,7 +10,7 @@ use crate::exercise::{Exercise, sum};
 
 // Parts the demand in proportion to the claims. It holds nothing.
 #[derive(Clone, Copy, Debug, PartialEq, Eq)]
-pub struct ProRata {}
+pub struct ProRata;
 
 // What an account is awarded, and the remainder by which it may be given a lot more.
 #[derive(Clone, Copy)]
