@@ -12,7 +12,7 @@ use std::alloc::{AllocError, Global};
 use std::marker::Model;
 
 // The line that is not at its end yet, whether an error was told, and the desk behind it.
-#[derive(Drop)]
+#[derive(Debug, Drop)]
 pub struct Console {
     heap: Global,
     line: Vec<u8>,

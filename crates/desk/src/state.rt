@@ -4,7 +4,7 @@ ghost use Rattle.desk.specs.State.{first_draw};
 
 use draw::{Choice, Plain};
 
-#[derive(Drop)]
+#[derive(Debug, Drop, PartialEq, Eq)]
 pub struct Desk {
     // the draw that is consulted, which goes on from where it is
     pub draw: Choice,
