@@ -1,11 +1,15 @@
--- Bytes heard one after another.
-use Rattle.std.proofs.Common.{◌≡◌, ℕ, List, [], ◌∷◌, ◌++◌, Option, sym, subst, append_assoc}
+-- Bytes heard and texts written one after another.
+use Rattle.std.proofs.Common.{◌≡◌, ℕ, List, [], ◌∷◌, ◌++◌, Option, sym, ap, ◌∙◌, subst, append_assoc}
 use Rattle.std.proofs.lemmas.List.{append-nil}
 use Rattle.desk.specs.Console.{Replies}
 use Rattle.desk.specs.Run.{Heard, Hears, Kept, after_line, with_byte}
 use Rattle.desk.specs.Run.Heard.{goes_on, ends}
 use Rattle.desk.specs.declared.answer.Answer.{Answer}
 use Rattle.desk.specs.declared.state.Desk.{Desk}
+
+-- two texts written one after the other
+pub added : {b c : List ℕ} (a x y : List ℕ) → b ≡ a ++ x → c ≡ b ++ y → c ≡ a ++ (x ++ y)
+added a x y e f = f ∙ ap (λ l. l ++ y) e ∙ append_assoc a x y
 
 -- the same bytes, told otherwise
 pub hears_same : {k k' : Kept} {xs ys t : List ℕ} → xs ≡ ys → Hears k xs k' t → Hears k ys k' t

@@ -1,14 +1,10 @@
--- Texts written one after the other, and what a word's echo is as a text.
-use Rattle.std.proofs.Common.{◌≡◌, ℕ, ◌<◌, List, ◌++◌, map, ap, ◌∙◌, append_assoc, encode_utf8_all, arith}
+-- What the echo of a word is as a text.
+use Rattle.std.proofs.Common.{◌≡◌, ℕ, ◌<◌, List, map, encode_utf8_all, arith}
 use Rattle.std.proofs.lemmas.Bool.Decides.{nat_tests}
 use Rattle.std.proofs.lemmas.List.Elements.{All-map}
 use Rattle.std.proofs.lemmas.Str.{encodes-IsAscii}
 use Rattle.std.proofs.lemmas.Str.Ascii.{IsAscii-from_all}
 use Rattle.language.specs.Text.{printed}
-
--- two texts written one after the other
-pub added : {b c : List ℕ} (a x y : List ℕ) → b ≡ a ++ x → c ≡ b ++ y → c ≡ a ++ (x ++ y)
-added a x y e f = f ∙ ap (λ l. l ++ y) e ∙ append_assoc a x y
 
 -- an echo is ASCII
 pub echo_utf8 : (bs : List ℕ) → encode_utf8_all (map printed bs) ≡ map printed bs

@@ -1,7 +1,6 @@
 use Rattle.std.proofs.Common.{◌++◌, string_bytes, sym, arith}
 use Rattle.std.proofs.lemmas.List.{take_more, take_all}
-use Rattle.language.proofs.Echoes.{added}
-use Rattle.desk.proofs.Runs.{hears_same, hears_then}
+use Rattle.desk.proofs.Runs.{added, hears_same, hears_then}
 use Rattle.desk.proofs.run.Console.hear.Goals as goal
 
 pub loop-b-preserved : goal.loop-b-preserved

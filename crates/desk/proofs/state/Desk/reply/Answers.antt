@@ -3,7 +3,7 @@ use Rattle.desk.specs.Console.{Answered, after_echo, too_long}
 use Rattle.desk.specs.declared.answer.Answer.{Answer}
 use Rattle.desk.specs.declared.answer.Answer.TheVariants.{Error}
 use Rattle.desk.specs.declared.answer.Fault.TheVariants.{LineTooLong}
-use Rattle.language.proofs.Echoes.{added}
+use Rattle.desk.proofs.Runs.{added}
 use Rattle.desk.proofs.state.Desk.reply.Goals as goal
 
 pub returns-then-line-gt-LONGEST_LINE : goal.returns-then-line-gt-LONGEST_LINE

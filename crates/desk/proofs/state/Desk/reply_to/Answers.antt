@@ -2,7 +2,7 @@ use Rattle.std.proofs.Common.{List, ◌∷◌, ◌++◌, map, vec_items, string_
 use Rattle.desk.specs.Console.{Answers}
 use Rattle.language.specs.Text.{echoed_on, printed, words}
 use Rattle.language.specs.declared.token.Token.{Token}
-use Rattle.language.proofs.Echoes.{added}
+use Rattle.desk.proofs.Runs.{added}
 use Rattle.desk.proofs.state.Desk.reply_to.Goals as goal
 
 pub returns : goal.returns
