@@ -1,5 +1,5 @@
 // The business days of a month.
-ghost use Rattle.std.specs.Prelude.{◌≡◌, ◌≤◌, MatchResult};
+ghost use Rattle.std.specs.Prelude.{◌≡◌, ◌+◌, ◌-◌, ◌%◌, ◌<◌, ◌≤◌, MatchResult};
 ghost use Rattle.measures.specs.declared.refusal.Refusal.TheVariants.{FigureOutOfRange};
 ghost use Rattle.calendar.specs.Days.{InMonth, month_length, weekday};
 ghost use Rattle.calendar.specs.Expiry.{business, BondDate, Finds, InRange, LatestBusiness, ShareDate, The, ThirdFriday};
@@ -47,11 +47,10 @@ impl<'a> Days<'a> {
         (self.first + day - 1) % 7
     }
 
-    // The Friday of the days 15 to 21.
     fn third_friday(&self) -> u32
         ensures { The (ThirdFriday self.now.month.year self.now.month.number) result }
     {
-        15 + (FRIDAY + 7 - self.first) % 7
+        friday_of_third_week(self.first)
     }
 
     // Whether the day is one of Monday to Friday, and no holiday.
@@ -86,4 +85,12 @@ impl<'a> Days<'a> {
     {
         (1..=limit).rev().find(|day| self.is_business(*day))
     }
+}
+
+// The Friday of the days 15 to 21, by the weekday of the first.
+fn friday_of_third_week(first: u32) -> u32
+    requires { first < 7 }
+    ensures { (15 ≤ result) × (result ≤ 21) × ((first + (result - 1)) % 7 ≡ 4) }
+{
+    15 + (FRIDAY + 7 - first) % 7
 }

@@ -1,5 +1,5 @@
 // A run of the console over an input that comes in parts.
-ghost use Rattle.std.specs.Prelude.{◌≡◌, ℕ, List, [], ◌∷◌, ◌++◌, IfOk, Option as AnyOption, OnOk};
+ghost use Rattle.std.specs.Prelude.{◌≡◌, ◌↔◌, ℕ, List, [], ◌∷◌, ◌++◌, IfOk, IsTrue, Option as AnyOption, OnOk};
 ghost use Rattle.desk.specs.Console.{Replies};
 ghost use Rattle.desk.specs.Run.{Heard, Hears, Kept, Ran, after_line, is_error, nothing_heard, with_byte};
 ghost use Rattle.language.specs.Text.{Appends};
@@ -18,6 +18,13 @@ pub struct Console {
     line: Vec<u8>,
     faulty: bool,
     desk: Desk,
+}
+
+// Whether the byte ends a line.
+fn is_end(b: u8) -> bool
+    ensures { IsTrue result ↔ (b ≡ 10) }
+{
+    b == b'\n'
 }
 
 // Whether the answer to a line, if there is one, tells an error.
@@ -71,7 +78,7 @@ impl Console {
     fn hear_byte(&mut self, b: u8, out: &mut String) -> Result<(), AllocError>
         ensures { OnOk result ((text : List ℕ) × Appends out.old out.new text × Hears self.old (b ∷ []) self.new text) }
     {
-        if b == b'\n' {
+        if is_end(b) {
             self.end_line(out)?;
             Ok(())
         } else {

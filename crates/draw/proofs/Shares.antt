@@ -35,9 +35,12 @@ awards_higher shares k share inside more =
     let e : share.award ≡ slice_index (awards_of shares) k + 1 = omega (arith, award_at shares k inside) in
     omega (arith, ap total (awards-set shares k share), ap (λ award. total (set (awards_of shares) k award)) e, one_higher (awards_of shares) k)
 
--- one lot given
-pub one_more : (lots : ℕ) (rests awards : List ℕ) → 0 < lots → one_each lots rests awards ≡ one_each (lots - 1) (spent rests) (lot_more rests awards)
-one_more lots rests awards some =
-    let e : lots ≡ suc (lots - 1) = omega arith in ap (λ n. one_each n rests awards) e
+-- a turn, where n of the lots are given; and the first
+pub one_more : (lots n : ℕ) (rests awards : List ℕ) → n < lots → one_each (lots - n) rests awards ≡ one_each (lots - (n + 1)) (spent rests) (lot_more rests awards)
+one_more lots n rests awards h =
+    let e : lots - n ≡ suc (lots - (n + 1)) = omega arith in ap (λ left. one_each left rests awards) e
+
+pub one_turn : (lots : ℕ) (rests awards : List ℕ) → 0 < lots → one_each lots rests awards ≡ one_each (lots - 1) (spent rests) (lot_more rests awards)
+one_turn lots rests awards some = let e : lots ≡ suc (lots - 1) = omega arith in ap (λ n. one_each n rests awards) e
 
 pub ruleset giving = (award_at, awards-set, rests-set, awards_higher, award_within)

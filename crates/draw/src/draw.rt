@@ -16,7 +16,7 @@ pub trait Draw {
         ensures moved { self.new ≡ next self.old exercise.claims exercise.demand };
 
     // One award for each claim. A claim or a demand above 10,000 is read as 10,000.
-    final fn award(&mut self, claims: [u32; 16], demand: u32) -> [u32; 16]
+    fn award(&mut self, claims: [u32; 16], demand: u32) -> [u32; 16]
         ensures awarded { result ≡ awards self.old (all_read claims) (lots_read demand) }
         ensures moved { self.new ≡ next self.old (all_read claims) (lots_read demand) }
         ensures fair { Fair (all_read claims) (lots_read demand) result }

@@ -105,7 +105,7 @@ impl Parting {
     }
 
     // The lots still to be given, one each.
-    #[tactic(auto, using(crate::proofs::Shares::one_more))]
+    #[tactic(auto, using(crate::proofs::Shares::one_turn))]
     fn one_each(mut self) -> [u32; 16]
         ensures { result ≡ one_each self.lots (rests_of self.shares) (awards_of self.shares) }
     {

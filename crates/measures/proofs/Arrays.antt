@@ -7,10 +7,10 @@ use Rattle.std.specs.Iterator.{ActsAs, CallableAtEachTurn, Yields}
 use Rattle.std.specs.List.{FoldsTo}
 
 -- a list is a map where each entry is
-pub is_map : {A B : Type 0} (f : A → B) (d : A) (xs : List A) (ys : List B) → length ys ≡ length xs → ((k : ℕ) → k < length xs → get_or ys k (f d) ≡ f (get_or xs k d)) → ys ≡ map f xs
-is_map f d xs ys long each =
-    ext_get_or (f d) ys (map f xs) (long ∙ sym (length-map xs f))
-    (λ k h. let inside : k < length xs = omega arith in each k inside ∙ sym (get_or-map f xs k d (f d) inside))
+pub is_map : {A B : Type 0} (f : A → B) (d : A) (e : B) (xs : List A) (ys : List B) → length ys ≡ length xs → ((k : ℕ) → k < length xs → get_or ys k e ≡ f (get_or xs k d)) → ys ≡ map f xs
+is_map f d e xs ys long each =
+    ext_get_or e ys (map f xs) (long ∙ sym (length-map xs f))
+    (λ k h. let inside : k < length xs = omega arith in each k inside ∙ sym (get_or-map f xs k d e inside))
 
 module _ {F A B : Type 0} (g : Mut F (A × Unit {0}) B) (h : A → B) (f : F) (each : ActsAs g f h) (xs : List A) (ys : List B) where
   mapped_at : (i n j k : ℕ) (d : A) (e : B) → j < n → k ≡ i + j → MapsFrom g f xs ys i n → get_or ys k e ≡ h (get_or xs k d)
@@ -27,7 +27,7 @@ module _ {F A B : Type 0} (g : Mut F (A × Unit {0}) B) (h : A → B) (f : F) (e
   -- a map of a list
   pub mapped : (n : ℕ) (d : A) → length xs ≡ n → IsMapOf g f xs ys n → ys ≡ map h xs
   mapped n d long m =
-      is_map h d xs ys (m.long ∙ sym long) (λ k inside. mapped_at 0 n k k d (h d) (omega arith) (omega arith) m.each)
+      is_map h d (h d) xs ys (m.long ∙ sym long) (λ k inside. mapped_at 0 n k k d (h d) (omega arith) (omega arith) m.each)
 
 module _ {F B : Type 0} (g : Mut F (ℕ × Unit {0}) B) (h : ℕ → B) (f : F) (each : ActsAs g f h) (ys : List B) where
   -- what is at each place
@@ -44,7 +44,7 @@ module _ {F B : Type 0} (g : Mut F (ℕ × Unit {0}) B) (h : ℕ → B) (f : F) 
 -- a map of a list, place by place
 pub made_map : {F A B : Type 0} (g : Mut F (ℕ × Unit {0}) B) (h : A → B) (f : F) (d : A) → (xs : List A) (ys : List B) (n : ℕ) → ActsAs g f (λ k. h (get_or xs k d)) → length xs ≡ n → IsFromFnResult g f ys n → ys ≡ map h xs
 made_map g h f d xs ys n each long m =
-    is_map h d xs ys (m.long ∙ sym long) (λ k inside. made_at g (λ j. h (get_or xs j d)) f each ys 0 n k k (h d) (omega arith) (omega arith) m.each)
+    is_map h d (h d) xs ys (m.long ∙ sym long) (λ k inside. made_at g (λ j. h (get_or xs j d)) f each ys 0 n k k (h d) (omega arith) (omega arith) m.each)
 
 -- a closure that each call leaves as it was may be called at each item, where it may be called at any
 module _ {A F : Type 0} (R : F → A → F → Type 0) (Q : F → A → Type 0) (f : F) (same : (x : A) (q : F) → R f x q → q ≡ f) where
