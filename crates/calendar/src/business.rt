@@ -10,7 +10,7 @@ use measures::Refusal;
 const MOST_HOLIDAYS: usize = 31;
 
 // The days of a month, with its holidays.
-#[derive(Clone, Copy, Debug)]
+#[derive(Clone, Copy, Debug, PartialEq, Eq)]
 pub struct Days<'a> {
     month: Month,
     // the weekday of the first day

@@ -1,7 +1,6 @@
 // What the console answers to a command, and the text of it.
 ghost use Rattle.std.specs.Prelude.{◌≡◌, Some};
-ghost use Rattle.std.specs.List.{list_any};
-ghost use Rattle.desk.specs.Answers.{answer_text, fault_of, fault_text, figures_text, too_large};
+ghost use Rattle.desk.specs.Answers.{answer_text, fault_of, fault_text, figures_text};
 ghost use Rattle.desk.specs.Console.{Says};
 
 use language::{Token, Verb};
@@ -28,25 +27,12 @@ pub enum Answer {
     Error(Fault),
 }
 
-// Whether it is a number above 2^64 - 1.
-fn is_too_large(token: &Token) -> bool
-    ensures { result ≡ too_large token.now }
-{
-    matches!(token, Token::TooLarge)
-}
-
-fn has_too_large(tokens: &[Token]) -> bool
-    ensures { result ≡ list_any too_large tokens.now }
-{
-    tokens.iter().any(|token| is_too_large(token))
-}
-
 impl Fault {
     // Why the tokens that follow the verb do not write its command.
     pub fn of(verb: Verb, args: &[Token]) -> Fault
         ensures { result ≡ fault_of verb args.now }
     {
-        if has_too_large(args) {
+        if args.contains(&Token::TooLarge) {
             Fault::NumberTooLarge
         } else {
             Fault::Usage(verb)

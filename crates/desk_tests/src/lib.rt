@@ -216,9 +216,7 @@ mod tests {
     // A command with blanks after it, so that the line has so many bytes.
     fn padded(heap: Global, bytes: usize) -> Result<Vec<u8>, AllocError> {
         let mut line = b"EXPIRY SHARES 2017 2".to_vec(heap)?;
-        for _ in 20..bytes {
-            line.push(b' ')?;
-        }
+        line.resize(bytes, b' ')?;
         Ok(line)
     }
 

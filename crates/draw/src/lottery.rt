@@ -112,6 +112,7 @@ impl Draw for Lottery {
 }
 
 // Each ticket is one account's, and each account has as many as lots: that is all it says.
+#[tactic(auto, using(crate::proofs::Tickets::tickets_shared_out))]
 pub fn tickets_shared_out()
     ensures { TicketsSharedOut }
 {}

@@ -1,9 +1,9 @@
 // Pro rata.
-ghost use Rattle.std.specs.Prelude.{◌≡◌, ◌+◌, ◌-◌, ◌*◌, ◌/◌, ◌%◌, ◌<◌, ◌≤◌, slice_index, slice_set};
+ghost use Rattle.std.specs.Prelude.{◌≡◌, ◌+◌, ◌-◌, ◌*◌, ◌/◌, ◌%◌, ◌<◌, ◌≤◌};
 ghost use Rattle.draw.specs.ProRata.{ProRataSpreads, first_largest, one_each, parts, pro_rata, remainders};
 ghost use Rattle.draw.specs.Shares.{awards_of, rests_of};
 ghost use Rattle.measures.specs.Sums.{total};
-ghost use Rattle.draw.specs.InProportion.{pro_rata_fair};
+ghost use Rattle.draw.specs.InProportion.{lot_more, pro_rata_fair, spent};
 
 use crate::draw::Draw;
 use crate::exercise::{Exercise, sum};
@@ -91,8 +91,8 @@ impl Parting {
     #[tactic(auto, using(crate::proofs::Shares::giving))]
     fn give_one(&mut self)
         requires { 0 < self.old.lots }
-        ensures given { awards_of self.new.shares ≡ slice_set (awards_of self.old.shares) (first_largest (rests_of self.old.shares)) (slice_index (awards_of self.old.shares) (first_largest (rests_of self.old.shares)) + 1) }
-        ensures spent { rests_of self.new.shares ≡ slice_set (rests_of self.old.shares) (first_largest (rests_of self.old.shares)) 0 }
+        ensures given { awards_of self.new.shares ≡ lot_more (rests_of self.old.shares) (awards_of self.old.shares) }
+        ensures spent { rests_of self.new.shares ≡ spent (rests_of self.old.shares) }
         ensures fewer { self.new.lots + 1 ≡ self.old.lots }
     {
         let place = self.first_largest();
@@ -109,7 +109,7 @@ impl Parting {
     fn one_each(mut self) -> [u32; 16]
         ensures { result ≡ one_each self.lots (rests_of self.shares) (awards_of self.shares) }
     {
-        while self.lots > 0 {
+        for _ in 0..self.lots {
             self.give_one();
         }
         awards(self.shares)
@@ -134,6 +134,7 @@ impl Draw for ProRata {
 }
 
 // Awards in proportion: that is all it says.
+#[tactic(auto, using(crate::proofs::Proportion::pro_rata_proportional))]
 pub fn pro_rata_spreads()
     ensures { ProRataSpreads }
 {}

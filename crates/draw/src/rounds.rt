@@ -52,6 +52,7 @@ impl<D: Draw> Rounds<D> {
     }
 
     // Rounds are held until the demand or the claims are used up, and no longer: that is all it says.
+    #[tactic(auto, using(crate::specs::Held::rounds_until))]
     pub fn until_used_up(&self)
         ensures { (claims : List ℕ) (demand : ℕ) → Until D.Draw.awards D.Draw.next self.now.most (standing self.now.below claims demand) (rounds_end D.Draw.awards D.Draw.next self.now.most self.now.below claims demand) }
     {}

@@ -50,7 +50,7 @@ impl Measure {
     pub fn holds(self, figure: u32) -> bool
         ensures { result ≡ inside self figure }
     {
-        self.least <= figure && figure <= self.most
+        (self.least..=self.most).contains(&figure)
     }
 
     // The figure of the measure that is nearest to this one.

@@ -8,31 +8,31 @@ use std::fmt;
 #[derive(Clone, Copy, Debug, PartialEq, Eq)]
 pub enum Refusal {
     // an account, underlying, series, strategy, instruction, session, way, side or kind that there is not; the buyer is the seller
-    NoSuchNumber,
+    NoSuchNumber = 1,
     // any other figure out of its measure; an expiry or a session that is not later than the present one
-    FigureOutOfRange,
+    FigureOutOfRange = 2,
     // a series, strategy or instruction in another state than the call needs
-    WrongState,
+    WrongState = 3,
     // the series is at or past its expiry, or for expire before it
-    WrongSideOfExpiry,
+    WrongSideOfExpiry = 4,
     // new lots in a suspended series
-    Suspended,
+    Suspended = 5,
     // covered lots of a put, or uncovered writing where it is not admitted
-    NotAdmitted,
+    NotAdmitted = 6,
     // legs that make no strategy of the kind
-    UnfitLegs,
+    UnfitLegs = 7,
     // fewer lots in the row than the call takes
-    TooFewLots,
+    TooFewLots = 8,
     // a row, or a deposit, would pass what it can hold
-    CeilingPassed,
+    CeilingPassed = 9,
     // the units left would not suffice for the covered lots
-    UnitsShort,
+    UnitsShort = 10,
     // the cash left would not suffice for the requirement
-    CashShort,
+    CashShort = 11,
     // the session cannot end while an instruction stands
-    InstructionStands,
+    InstructionStands = 12,
     // fewer than sixteen lines were lent
-    TooFewLines,
+    TooFewLines = 13,
 }
 
 impl Refusal {
@@ -40,21 +40,7 @@ impl Refusal {
     pub fn number(self) -> u8
         ensures { result ≡ number_of self }
     {
-        match self {
-            Refusal::NoSuchNumber => 1,
-            Refusal::FigureOutOfRange => 2,
-            Refusal::WrongState => 3,
-            Refusal::WrongSideOfExpiry => 4,
-            Refusal::Suspended => 5,
-            Refusal::NotAdmitted => 6,
-            Refusal::UnfitLegs => 7,
-            Refusal::TooFewLots => 8,
-            Refusal::CeilingPassed => 9,
-            Refusal::UnitsShort => 10,
-            Refusal::CashShort => 11,
-            Refusal::InstructionStands => 12,
-            Refusal::TooFewLines => 13,
-        }
+        self as u8
     }
 
     // The refusal in a few words for people.
