@@ -1,5 +1,5 @@
 -- What the console does with a command.
-use Rattle.std.specs.Prelude.{◌≡◌, ℕ, ◌-◌, ◌^◌, min, Bool, true, false, ◌⊎◌, List, [], ◌∷◌, ◌++◌, map, length, replicate, Some, None, Ok, Err, vec_items, codes, Option, Result, ◌==◌, ◌≢◌, nat_le, nat_lt, slice_index}
+use Rattle.std.specs.Prelude.{◌≡◌, ℕ, ◌-◌, ◌^◌, min, Bool, true, false, ◌⊎◌, List, [], ◌∷◌, ◌++◌, map, length, replicate, Some, None, Ok, Err, vec_items, codes, Option, Result, ◌==◌, ◌≢◌, nat_le, nat_lt, slice_index, String}
 use Rattle.measures.specs.declared.refusal.Refusal.{Refusal}
 use Rattle.calendar.specs.Expiry.{Tells, ShareDate, BondDate}
 use Rattle.tariff.specs.Amounts.{amount_of_choice}
@@ -11,7 +11,7 @@ use Rattle.draw.specs.declared.choice.Choice.TheVariants as choice
 use Rattle.draw.specs.declared.choice.Plain.{Plain}
 use Rattle.desk.specs.Answers.{answer_text, fault_of}
 use Rattle.language.specs.Commands.{written}
-use Rattle.language.specs.Text.{Meant, echoed, words}
+use Rattle.language.specs.Text.{Appends, Meant, echoed, words}
 use Rattle.desk.specs.declared.answer.Answer.{Answer}
 use Rattle.desk.specs.declared.answer.Answer.TheVariants.{Done, Value, Awards, Refused, Error}
 use Rattle.desk.specs.declared.answer.Fault.TheVariants.{UnknownCommand, Usage, LineTooLong}
@@ -87,6 +87,10 @@ Answers (Unknown ∷ args) b a b' = (a ≡ Error UnknownCommand) × (b' ≡ b)
 Answers (Name v ∷ args) b a b' =
     ((c : Command) × ((Name v ∷ args) ≡ written c) × Performs c b a b')
     ⊎ (((c : Command) → (Name v ∷ args) ≢ written c) × (a ≡ Error (fault_of v args)) × (b' ≡ b))
+
+-- a text is written, of which P holds
+abbrev pub Writes : {A : Type 0} → String A → String A → (List ℕ → Type 0) → Type 0
+Writes old new P = (text : List ℕ) × Appends old new text × P text
 
 -- what stands after the echo of the command
 abbrev pub after_echo : Answer → List ℕ

@@ -1,6 +1,6 @@
 // Lines of text answered in text.
 ghost use Rattle.std.specs.Prelude.{◌≡◌, ℕ, List, ◌∷◌, ◌++◌, IfOk, OnOk};
-ghost use Rattle.desk.specs.Console.{Answers, Replies, after_echo};
+ghost use Rattle.desk.specs.Console.{Answers, Replies, Writes, after_echo};
 ghost use Rattle.language.specs.Text.{Appends, Meant, echoed, words};
 ghost use Rattle.language.specs.declared.token.Token.{Token as AnyToken};
 
@@ -50,7 +50,7 @@ impl Desk {
         line: &[u8],
         out: &mut String,
     ) -> Result<Option<Answer>, AllocError>
-        ensures { IfOk result (λ o. (text : List ℕ) × Replies line.now self.old o self.new text × Appends out.old out.new text) }
+        ensures { IfOk result (λ o. Writes out.old out.new (Replies line.now self.old o self.new)) }
     {
         let Some((first, rest)) = next_word(line) else {
             return Ok(None);

@@ -1,8 +1,7 @@
 // A run of the console over an input that comes in parts.
 ghost use Rattle.std.specs.Prelude.{◌≡◌, ◌↔◌, ℕ, List, [], ◌∷◌, ◌++◌, IfOk, IsTrue, Option as AnyOption, OnOk};
-ghost use Rattle.desk.specs.Console.{Replies};
+ghost use Rattle.desk.specs.Console.{Replies, Writes};
 ghost use Rattle.desk.specs.Run.{Heard, Hears, Kept, Ran, after_line, is_error, nothing_heard, with_byte};
-ghost use Rattle.language.specs.Text.{Appends};
 ghost use Rattle.desk.specs.declared.answer.Answer.{Answer as AnyAnswer};
 
 use crate::answer::Answer;
@@ -66,7 +65,7 @@ impl Console {
 
     // Answers the line, and tells whether an error was told so far.
     fn end_line(&mut self, out: &mut String) -> Result<bool, AllocError>
-        ensures { IfOk result (λ bad. (o : AnyOption AnyAnswer) × (text : List ℕ) × Replies self.old.line self.old.desk o self.new.desk text × Appends out.old out.new text × (self.new ≡ after_line self.old o self.new.desk) × (bad ≡ self.new.bad)) }
+        ensures { IfOk result (λ bad. (o : AnyOption AnyAnswer) × Writes out.old out.new (Replies self.old.line self.old.desk o self.new.desk) × (self.new ≡ after_line self.old o self.new.desk) × (bad ≡ self.new.bad)) }
     {
         let answer = self.desk.reply(self.heap, &self.line, out)?;
         self.line.clear();
@@ -76,7 +75,7 @@ impl Console {
 
     // Hears the next byte of the input, and answers the line where it ends it.
     fn hear_byte(&mut self, b: u8, out: &mut String) -> Result<(), AllocError>
-        ensures { OnOk result ((text : List ℕ) × Appends out.old out.new text × Hears self.old (b ∷ []) self.new text) }
+        ensures { OnOk result (Writes out.old out.new (Hears self.old (b ∷ []) self.new)) }
     {
         if is_end(b) {
             self.end_line(out)?;
@@ -88,7 +87,7 @@ impl Console {
 
     // Hears the next bytes of the input, and answers each line that they end.
     pub fn hear(&mut self, bytes: &[u8], out: &mut String) -> Result<(), AllocError>
-        ensures { OnOk result ((text : List ℕ) × Appends out.old out.new text × Hears self.old bytes.now self.new text) }
+        ensures { OnOk result (Writes out.old out.new (Hears self.old bytes.now self.new)) }
     {
         for b in bytes {
             self.hear_byte(*b, out)?;
@@ -98,7 +97,7 @@ impl Console {
 
     // Ends the run: answers a last line that has no end, and tells whether an error was told.
     pub fn close(mut self, out: &mut String) -> Result<bool, AllocError>
-        ensures { IfOk result (λ bad. (text : List ℕ) × Appends out.old out.new text × ((input before : List ℕ) → Heard input self before → Ran input (before ++ text) bad)) }
+        ensures { IfOk result (λ bad. Writes out.old out.new (λ text. (input before : List ℕ) → Heard input self before → Ran input (before ++ text) bad)) }
     {
         self.end_line(out)
     }

@@ -7,7 +7,7 @@ use Rattle.desk.proofs.run.Console.hear_byte.Goals as goal
 pub returns-in_ok-end_line : goal.returns-in_ok-end_line
 returns-in_ok-end_line c =
     let p = c.in_ok-end_line.ensures in
-    (p.1, p.3, on_end p.0 _ p.1 (c.is_end.ensures.0 c.if-is_end.true) p.2 p.4)
+    (p.1.0, p.1.1, on_end p.0 _ p.1.0 (c.is_end.ensures.0 c.if-is_end.true) p.1.2 p.2)
 
 pub returns-else-is_end : goal.returns-else-is_end
 returns-else-is_end c =
