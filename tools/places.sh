@@ -12,7 +12,7 @@ places() {
     echo "$found"
 }
 places '1: an Option or a Result taken apart and put together again; an error made by hand' '^\s*(None => (None|Err\()|Err\(_\) => Err\()|return Err\(AllocError\)'
-places '1: numbers for kinds or refusals' 'fn \w+\(.*-> (Option<)?u8>? \{?$'
+places '1: numbers for kinds or refusals' 'fn \w+\(.*-> (Option<)?u8>?( \{)?$'
 places '1: own enums' '^(pub )?enum '
 places '2: functions, types and impls, to be read for twins' '^ *(pub |pub\(crate\) )?fn |^(pub )?(struct|enum|trait) |^impl'
 places '3: loops' '^ *(for .* in .*|while .*|loop) \{$'
