@@ -17,7 +17,7 @@ pub struct Rounds<D> {
     ghost some: { 1 ≤ most },
 }
 
-// `Copy` asks for it, and beside a ghost field it cannot be derived.
+// `Copy` asks for it. By hand it says that the copy is the same, whatever D; a derived one says only what the clone of D does.
 impl<D: Copy> Clone for Rounds<D> {
     ghost is_clone = { λ s copy. copy ≡ s };
 

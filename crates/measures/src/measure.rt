@@ -79,7 +79,7 @@ pub const CASH_CEILING: u64 = 1_000_000_000_000_000;
 
 pub const UNITS_CEILING: u64 = 1_000_000_000;
 
-// These counts and ceilings are those of the rules: that is all it says.
+// These ranges, counts and ceilings are those of the rules: that is all it says.
 pub fn named_figures()
     ensures accounts { ACCOUNTS ≡ account_count }
     ensures underlyings { UNDERLYINGS ≡ underlying_count }
