@@ -39,7 +39,7 @@ impl Desk {
         echo_word(first, out)?;
         let args = read_words(heap, rest, out)?;
         let answer = self.answer(heap, Token::read(first), &args)?;
-        write!(out, ": {answer}\n")?;
+        writeln!(out, ": {answer}")?;
         Ok(answer)
     }
 
@@ -60,8 +60,7 @@ impl Desk {
         }
         if line.len() > LONGEST_LINE {
             let answer = Answer::Error(Fault::LineTooLong);
-            out.push_str("..")?;
-            write!(out, ": {answer}\n")?;
+            writeln!(out, "..: {answer}")?;
             return Ok(Some(answer));
         }
         let answer = self.reply_to(heap, first, rest, out)?;

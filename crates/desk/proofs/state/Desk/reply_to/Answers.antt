@@ -13,5 +13,5 @@ returns c =
     let read = c.in_ok-args.ensures in
     let answered = subst (λ (ts : List Token). Answers (c.read.result ∷ ts) c.args.self.now c.in_ok-answer.answer c.answer.new.self) c.deref.ensures.value c.in_ok-answer.ensures in (
       (c.read.result ∷ vec_items c.in_ok-args.args, (c.read.ensures, read.means), answered),
-      added out (first ++ rest) _ (added out first rest c.in_ok-echo_word.ensures read.echoes) c.in_ok-write.ensures.bytes,
+      added out (first ++ rest) _ (added out first rest c.in_ok-echo_word.ensures read.echoes) c.in_ok-writeln.ensures.bytes,
     )
