@@ -1,3 +1,4 @@
+pub mod Computed
 pub mod Countdown
 pub mod Counts
 pub mod Dates

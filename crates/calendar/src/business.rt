@@ -1,11 +1,14 @@
 // The business days of a month.
-ghost use Rattle.std.specs.Prelude.{◌≡◌, ◌+◌, ◌-◌, ◌%◌, ◌<◌, ◌≤◌, MatchResult};
+ghost use Rattle.std.specs.Prelude.{◌≡◌, ◌+◌, ◌-◌, ◌%◌, ◌<◌, ◌≤◌, false, MatchResult};
+ghost use Rattle.std.specs.Iterator.Adapters.{rev_source};
 ghost use Rattle.measures.specs.declared.refusal.Refusal.TheVariants.{FigureOutOfRange};
 ghost use Rattle.calendar.specs.Days.{InMonth, month_length, weekday};
 ghost use Rattle.calendar.specs.Expiry.{business, BondDate, Finds, InRange, LatestBusiness, ShareDate, The, ThirdFriday};
 
 use crate::month::{FRIDAY, Month, SATURDAY};
 use measures::Refusal;
+use std::iter::Rev;
+use std::ops::RangeInclusive;
 
 const MOST_HOLIDAYS: usize = 31;
 
@@ -72,8 +75,7 @@ impl<'a> Days<'a> {
     pub fn bond_date(&self) -> Option<u32>
         ensures { Finds (BondDate self.now.month.year self.now.month.number self.now.holidays.now) result }
     {
-        (1..=self.month.days())
-            .rev()
+        down_from(self.month.days())
             .filter(|day| self.is_business(*day))
             .nth(2)
     }
@@ -83,8 +85,17 @@ impl<'a> Days<'a> {
         requires { limit ≤ month_length self.now.month.year self.now.month.number }
         ensures { Finds (LatestBusiness self.now.month.year self.now.month.number self.now.holidays.now limit) result }
     {
-        (1..=limit).rev().find(|day| self.is_business(*day))
+        down_from(limit).find(|day| self.is_business(*day))
     }
+}
+
+// The days up to a last one, from that down to the first.
+fn down_from(last: u32) -> Rev<RangeInclusive<u32>>
+    ensures begins { (rev_source result).end ≡ last }
+    ensures ends { (rev_source result).start ≡ 1 }
+    ensures fresh { (rev_source result).exhausted ≡ false }
+{
+    (1..=last).rev()
 }
 
 // The Friday of the days 15 to 21, by the weekday of the first.

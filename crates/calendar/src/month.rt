@@ -55,14 +55,8 @@ impl Month {
     pub fn holds_all(self, holidays: &[u32]) -> bool
         ensures { IsTrue result ↔ All (InMonth self.year self.number) holidays.now }
     {
-        holidays.iter().all(|day| self.holds(*day))
-    }
-
-    // Whether it is a day of the month.
-    fn holds(self, day: u32) -> bool
-        ensures { IsTrue result ↔ InMonth self.year self.number day }
-    {
-        (1..=self.days()).contains(&day)
+        let days = 1..=self.days();
+        holidays.iter().all(|day| days.contains(day))
     }
 
     // The weekday of its first day; 1 January 2000 was a Saturday.

@@ -1,6 +1,6 @@
--- The claims that are given, account by account.
-use Rattle.std.proofs.Common.{◌≡◌, ℕ, ◌-◌, ◌<◌, ◌≤◌, List, map, length, get_or, replicate, sym, ap, ◌∙◌, ⊎_elim, length-append, arith}
-use Rattle.std.proofs.lemmas.List.{ext_get_or, get_or_append_left, get_or-append_right, get_or-map, get_or_past, get_or-replicate, length-map, length-replicate}
+-- The claims that are given, account by account, and put one after another over noughts.
+use Rattle.std.proofs.Common.{◌≡◌, ℕ, suc, ◌+◌, ◌-◌, ◌<◌, ◌≤◌, List, [], ◌∷◌, ◌++◌, map, length, get_or, take, set, replicate, sym, ap, ◌∙◌, ⊎_elim, length-append, arith}
+use Rattle.std.proofs.lemmas.List.{append_assoc, length-take-le, map_more, set_at, ext_get_or, get_or_append_left, get_or-append_right, get_or-map, get_or_past, get_or-replicate, length-map, length-replicate}
 use Rattle.std.proofs.lemmas.Bool.{cases_lt}
 use Rattle.desk.specs.Console.{claims_of, figure_of}
 
@@ -20,3 +20,14 @@ module _ (ns : List ℕ) (few : length ns ≤ 16) where
 
   pub is_claims : (ys : List ℕ) → length ys ≡ 16 → ((k : ℕ) → k < 16 → get_or ys k 0 ≡ figure_of (get_or ns k 0)) → ys ≡ claims_of ns
   is_claims ys long each = ext_get_or 0 ys (claims_of ns) (long ∙ sym long_claims) (λ k h. let inside : k < 16 = omega arith in each k inside ∙ sym (claim_at k inside))
+
+pub claim_more : (ns : List ℕ) (k : ℕ) → k < length ns → length ns ≤ 16 → set (map figure_of (take k ns) ++ replicate (16 - k) 0) k (figure_of (get_or ns k 0)) ≡ map figure_of (take (k + 1) ns) ++ replicate (16 - (k + 1)) 0
+claim_more ns k here few =
+    let figure = figure_of (get_or ns k 0) in
+    let front = map figure_of (take k ns) in
+    let back : List ℕ = replicate (16 - (k + 1)) 0 in
+    let count : 16 - k ≡ suc (16 - (k + 1)) = omega arith in
+    ap (λ n. set (front ++ replicate n 0) k figure) count
+    ∙ set_at front 0 back figure k (length-map (take k ns) figure_of ∙ length-take-le k ns (omega arith))
+    ∙ sym (append_assoc front (figure ∷ []) back)
+    ∙ ap (λ xs. xs ++ back) (sym (map_more figure_of ns k 0 here))

@@ -11,6 +11,17 @@ use Rattle.desk.specs.declared.state.Desk.{Desk}
 pub added : {b c : List ℕ} (a x y : List ℕ) → b ≡ a ++ x → c ≡ b ++ y → c ≡ a ++ (x ++ y)
 added a x y e f = f ∙ ap (λ l. l ++ y) e ∙ append_assoc a x y
 
+-- the same bytes, told otherwise
+pub hears_same : {k k' : Kept} {xs ys t : List ℕ} → xs ≡ ys → Hears k xs k' t → Hears k ys k' t
+hears_same {k} {k'} {t = t} e h = subst (λ (bs : List ℕ). Hears k bs k' t) e h
+
+pub hears_then : {k k' k'' : Kept} {xs ys t u : List ℕ} → Hears k xs k' t → Hears k' ys k'' u → Hears k (xs ++ ys) k'' (t ++ u)
+hears_then {k'' = k''} {xs = xs} {ys = ys} {t = t} {u = u} g h = record {
+  after = λ {input} {before} was.
+      subst (λ (bs : List ℕ). Heard bs k'' (before ++ (t ++ u))) (append_assoc input xs ys)
+      (subst (λ (ts : List ℕ). Heard ((input ++ xs) ++ ys) k'' ts) (append_assoc before t u) (h.after (g.after was)));
+}
+
 module _ {b : ℕ} {k k' : Kept} where
   -- a byte that goes on with the line
   pub on_byte : (b ≡ 10 → ⊥) → k' ≡ with_byte k b → Hears k (b ∷ []) k' []

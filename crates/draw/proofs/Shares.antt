@@ -9,7 +9,7 @@ use Rattle.draw.proofs.Proportion.{one_higher}
 use Rattle.draw.specs.Shares.{awards_of, rests_of}
 use Rattle.draw.specs.declared.pro_rata.Share.{Share}
 
-abbrev nothing : Share
+abbrev pub nothing : Share
 nothing = record { award = 0; rest = 0 }
 
 module _ (shares : List Share) (k : ℕ) (inside : k < length shares) where

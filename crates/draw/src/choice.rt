@@ -45,6 +45,8 @@ impl Draw for Plain {
 
     ghost fair = { plain_fair };
 
+    // Inlined, for each call would copy the exercise once more.
+    #[inline(always)]
     fn consult(&mut self, exercise: Exercise) -> [u32; 16] {
         match self {
             Plain::Wheel(draw) => draw.consult(exercise),

@@ -49,7 +49,7 @@ impl Exercise {
         ensures demand { result.demand ≡ lots_read demand }
     {
         Exercise {
-            claims: claims.map(lots_read),
+            claims: std::array::from_fn(|k| lots_read(claims[k])),
             demand: lots_read(demand),
         }
     }

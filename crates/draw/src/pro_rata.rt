@@ -20,35 +20,62 @@ struct Share {
 }
 
 // The awards of the shares.
-fn awards(shares: [Share; 16]) -> [u32; 16]
-    ensures { result ≡ awards_of shares }
+fn awards(shares: &[Share; 16]) -> [u32; 16]
+    ensures { result ≡ awards_of shares.now }
 {
-    shares.map(|share| share.award)
+    std::array::from_fn(|k| shares[k].award)
 }
 
-// A claim's part of the demand, rounded down, and the remainder of the division.
-fn share_of(exercise: &Exercise, claim: u32, all: u32) -> Share
-    requires small { claim ≤ 10_000 }
+// A claim's part of so many lots, rounded down.
+fn part(lots: u32, claim: u32, all: u32) -> u32
+    requires lots { lots ≤ 10_000 }
+    requires claim { claim ≤ 10_000 }
     requires some { 0 < all }
-    ensures award { result.award ≡ exercise.now.demand * claim / all }
-    ensures rest { result.rest ≡ exercise.now.demand * claim % all }
+    ensures { result ≡ lots * claim / all }
 {
-    let product = exercise.demand * claim;
-    Share {
-        award: product / all,
-        rest: product % all,
-    }
+    lots * claim / all
 }
 
-// The shares of all claims.
-fn shares(exercise: Exercise) -> [Share; 16]
-    requires { exercise.demand < total exercise.claims }
-    ensures parted { awards_of result ≡ parts exercise.claims exercise.demand }
-    ensures remaining { rests_of result ≡ remainders exercise.claims exercise.demand }
-    ensures within { total (awards_of result) ≤ exercise.demand }
+// What that part leaves: the remainder of the division.
+fn remainder(lots: u32, claim: u32, all: u32, part: u32) -> u32
+    requires lots { lots ≤ 10_000 }
+    requires claim { claim ≤ 10_000 }
+    requires part { part ≡ lots * claim / all }
+    ensures { result ≡ lots * claim % all }
+{
+    lots * claim - part * all
+}
+
+// The parts of so many lots, one for each claim.
+fn parts_of(exercise: &Exercise, lots: u32) -> [u32; 16]
+    requires small { lots ≤ 10_000 }
+    requires some { 0 < total exercise.now.claims }
+    ensures parted { result ≡ parts exercise.now.claims lots }
+    ensures within { total result ≤ lots }
 {
     let all = exercise.all();
-    exercise.claims.map(|claim| share_of(&exercise, claim, all))
+    std::array::from_fn(|k| part(lots, exercise.claims[k], all))
+}
+
+// What those parts leave.
+fn remainders_of(exercise: &Exercise, lots: u32, parted: &[u32; 16]) -> [u32; 16]
+    requires small { lots ≤ 10_000 }
+    requires parted { parted.now ≡ parts exercise.now.claims lots }
+    ensures { result ≡ remainders exercise.now.claims lots }
+{
+    let all = exercise.all();
+    std::array::from_fn(|k| remainder(lots, exercise.claims[k], all, parted[k]))
+}
+
+// The shares with these parts and remainders.
+fn shares(parts: &[u32; 16], rests: &[u32; 16]) -> [Share; 16]
+    ensures parted { awards_of result ≡ parts.now }
+    ensures remaining { rests_of result ≡ rests.now }
+{
+    std::array::from_fn(|k| Share {
+        award: parts[k],
+        rest: rests[k],
+    })
 }
 
 // The demand as it is parted: the shares of the accounts, and the lots still to be given.
@@ -61,15 +88,19 @@ struct Parting {
 
 impl Parting {
     // The lots that the parts leave are still to be given.
-    fn of(exercise: Exercise) -> Parting
-        requires { exercise.demand < total exercise.claims }
-        ensures parted { awards_of result.shares ≡ parts exercise.claims exercise.demand }
-        ensures remaining { rests_of result.shares ≡ remainders exercise.claims exercise.demand }
-        ensures lots { result.lots ≡ exercise.demand - total (parts exercise.claims exercise.demand) }
+    fn of(exercise: &Exercise) -> Parting
+        requires { exercise.now.demand < total exercise.now.claims }
+        ensures parted { awards_of result.shares ≡ parts exercise.now.claims exercise.now.demand }
+        ensures remaining { rests_of result.shares ≡ remainders exercise.now.claims exercise.now.demand }
+        ensures lots { result.lots ≡ exercise.now.demand - total (parts exercise.now.claims exercise.now.demand) }
     {
-        let shares = shares(exercise);
-        let lots = exercise.demand - sum(awards(shares));
-        Parting { shares, lots }
+        let parts = parts_of(exercise, exercise.demand);
+        let lots = exercise.demand - sum(parts);
+        let rests = remainders_of(exercise, exercise.demand, &parts);
+        Parting {
+            shares: shares(&parts, &rests),
+            lots,
+        }
     }
 
     // The place of the largest remainder, of the first where several are as large.
@@ -112,8 +143,17 @@ impl Parting {
         for _ in 0..self.lots {
             self.give_one();
         }
-        awards(self.shares)
+        awards(&self.shares)
     }
+}
+
+// The demand in proportion. Where it is inlined, its 32 numbers are loaded where every claim is awarded too.
+#[inline(never)]
+fn spread(exercise: &Exercise) -> [u32; 16]
+    requires { exercise.now.demand < total exercise.now.claims }
+    ensures { result ≡ pro_rata exercise.now.claims exercise.now.demand }
+{
+    Parting::of(exercise).one_each()
 }
 
 impl Draw for ProRata {
@@ -126,7 +166,7 @@ impl Draw for ProRata {
     // Every claim, or where the demand is below them all the demand in proportion.
     fn consult(&mut self, exercise: Exercise) -> [u32; 16] {
         if exercise.demand < exercise.all() {
-            Parting::of(exercise).one_each()
+            spread(&exercise)
         } else {
             exercise.claims
         }

@@ -11,9 +11,11 @@ use Rattle.std.proofs.lemmas.Str.Ascii.{IsAscii-from_all}
 use Rattle.std.proofs.lemmas.Fmt.{IsAscii-from_digits}
 use Rattle.language.specs.Text.{Means, Numeral, number_on, named, spelled}
 use Rattle.language.specs.declared.token.Token.{Token}
+use Rattle.language.specs.declared.word.Verb.{Verb}
+use Rattle.language.specs.declared.word.Word.{Word}
 use Rattle.language.specs.declared.token.Token.TheVariants.{Number, TooLarge, Unknown}
 
-own : IsNumeralModel (λ ds. all_ascii_digits ds ≡ true) (number_on 0)
+pub own : IsNumeralModel (λ ds. all_ascii_digits ds ≡ true) (number_on 0)
 own = numerals_by_fold _ (search rules) number_on (search rules)
 
 ascii_utf8 : (bs : List ℕ) → list_all (λ b. nat_lt b 128) bs ≡ true → IsUtf8 bs
@@ -21,12 +23,22 @@ ascii_utf8 bs h =
     let tested = AllPass-from_list_all (λ b. nat_lt b 128) bs h in
     IsUtf8-from_ascii bs (IsAscii-from_all bs (λ k d l. let t = tested k d l in grind (arith, nat_tests)))
 
--- digits, and the words of the language, are UTF-8: what is not means nothing
+-- digits, and the words of the language, are UTF-8
+pub digits_utf8 : (bs : List ℕ) → all_ascii_digits bs ≡ true → IsUtf8 bs
+digits_utf8 bs h = IsUtf8-from_ascii bs (IsAscii-from_digits bs (own.to bs h))
+
+pub verbs_utf8 : (v : Verb) → IsUtf8 (named v)
+verbs_utf8 v = ascii_utf8 (named v) (grind arith)
+
+pub words_utf8 : (w : Word) → IsUtf8 (spelled w)
+words_utf8 w = ascii_utf8 (spelled w) (grind arith)
+
+-- what is not UTF-8 means nothing
 pub unknown_unless_utf8 : (bs : List ℕ) → (IsUtf8 bs → ⊥) → Means bs Unknown
 unknown_unless_utf8 bs no_text = (
-  λ n. no_text (IsUtf8-from_ascii bs (IsAscii-from_digits bs (own.to bs n.1))),
-  λ v e. no_text (rw e (ascii_utf8 (named v) (grind arith))),
-  λ w e. no_text (rw e (ascii_utf8 (spelled w) (grind arith))),
+  λ n. no_text (digits_utf8 bs n.1),
+  λ v e. no_text (rw e (verbs_utf8 v)),
+  λ w e. no_text (rw e (words_utf8 w)),
 )
 
 -- a numeral means the number that `parse` reads, and is too large where it reads none

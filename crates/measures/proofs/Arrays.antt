@@ -1,7 +1,8 @@
 -- An array that a closure made, each element of another, or each of its place.
-use Rattle.std.proofs.Common.{◌≡◌, ℕ, zero, suc, ◌+◌, ◌<◌, List, [], ◌∷◌, map, length, get_or, sym, subst, ◌∙◌, arith}
+use Rattle.std.proofs.Common.{◌≡◌, ℕ, zero, suc, ◌+◌, ◌<◌, List, [], ◌∷◌, map, length, get_or, sym, refl, subst, ◌∙◌, arith}
 use Rattle.std.proofs.lemmas.List.{ext_get_or, get_or-map, length-map}
-use Rattle.std.specs.Array.{IsFromFnResult, IsFromFnResultFrom, IsMapOf, MapsFrom, list_steps}
+use Rattle.std.proofs.lemmas.Fn.{serves_by}
+use Rattle.std.specs.Array.{IsFromFnResult, IsFromFnResultFrom, IsMapOf, MapsFrom, index_steps, list_steps}
 use Rattle.std.specs.Fn.{Mut}
 use Rattle.std.specs.Iterator.{ActsAs, CallableAtEachTurn, Yields}
 use Rattle.std.specs.List.{FoldsTo}
@@ -58,3 +59,9 @@ module _ {A F : Type 0} (R : F → A → F → Type 0) (Q : F → A → Type 0) 
 
   pub callable : (xs : List A) → ((k : ℕ) (d : A) → k < length xs → Q f (get_or xs k d)) → CallableAtEachTurn list_steps R Q xs f
   callable xs all = record { at = λ ys t q x u yields folds next. callable_at ys xs t q x u (λ k. all k x) yields folds next }
+
+-- and likewise at each place of an array that it makes
+pub callable_places : {F : Type 0} (R : F → ℕ → F → Type 0) (Q : F → ℕ → Type 0) (f : F) → ((x : ℕ) (q : F) → R f x q → q ≡ f) → (n : ℕ) → ((k : ℕ) → k < n → Q f k) → CallableAtEachTurn (index_steps n) R Q 0 f
+callable_places R Q f same n each =
+    serves_by R (λ _ q. q ≡ f) (λ xs q x v kept r. same x v (subst (λ p. R p x v) kept r)) (index_steps n) Q 0 f refl
+    (λ xs t q x u yields step kept. subst (λ p. Q p x) (sym kept) (each x (omega arith)))

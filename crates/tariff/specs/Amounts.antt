@@ -62,4 +62,5 @@ rule_of_choice (Of2017 _) lot = rule_2017 lot
 rule_of_choice (Of1996 _) lot = rule_1996 lot
 
 abbrev pub amount_of_choice : Delivered → Lot → ℕ
-amount_of_choice tariff lot = rule_of_choice tariff (read lot)
+amount_of_choice (Of2017 _) lot = amount_2017 lot
+amount_of_choice (Of1996 _) lot = amount_1996 lot

@@ -1,5 +1,6 @@
 // The two tariffs that are delivered, and the choice between them at run time.
-ghost use Rattle.tariff.specs.Amounts.{rule_1996, rule_2017, rule_of_choice};
+ghost use Rattle.std.proofs.Common.{refl};
+ghost use Rattle.tariff.specs.Amounts.{amount_1996, amount_2017, amount_of_choice, rule_1996, rule_2017, rule_of_choice};
 ghost use Rattle.tariff.specs.Bounds.{bounded_1996, bounded_2017};
 ghost use Rattle.tariff.specs.declared.delivered.Delivered.TheVariants.{Of2017, Of1996};
 
@@ -11,7 +12,11 @@ use crate::rule::Rule;
 pub struct Tariff2017;
 
 impl Rule for Tariff2017 {
+    ghost requirement = { λ _. amount_2017 };
+
     ghost rule = { λ _. rule_2017 };
+
+    ghost reads = { λ _ _. refl };
 
     ghost bounded = { λ _. bounded_2017 };
 
@@ -28,7 +33,11 @@ impl Rule for Tariff2017 {
 pub struct Tariff1996;
 
 impl Rule for Tariff1996 {
+    ghost requirement = { λ _. amount_1996 };
+
     ghost rule = { λ _. rule_1996 };
+
+    ghost reads = { λ _ _. refl };
 
     ghost bounded = { λ _. bounded_1996 };
 
@@ -48,7 +57,11 @@ pub enum Delivered {
 }
 
 impl Rule for Delivered {
+    ghost requirement = { amount_of_choice };
+
     ghost rule = { rule_of_choice };
+
+    ghost reads = { elim [ Of2017 _ ↦ λ _. refl | Of1996 _ ↦ λ _. refl ] };
 
     ghost bounded = { elim [ Of2017 _ ↦ bounded_2017 | Of1996 _ ↦ bounded_1996 ] };
 

@@ -1,46 +1,30 @@
-use Rattle.std.proofs.Common.{◌≡◌, ℕ, ◌*◌, ◌/◌, ◌%◌, ◌≤◌, map, get_or, ap, ◌∙◌, arith, rules}
-use Rattle.std.proofs.lemmas.Grind.{get_or_default_zero}
-use mathlib.Core.List.{map-map}
-use Rattle.measures.specs.Sums.{total}
-use Rattle.draw.specs.InProportion.{parts_within}
-use Rattle.draw.specs.ProRata.{parts}
+use Rattle.std.proofs.Common.{◌≡◌, ℕ, ◌<◌, length, get_or, ap, ◌∙◌, arith, rules}
+use Rattle.std.proofs.lemmas.List.{ext_get_or, length-map}
+use Rattle.draw.proofs.Shares.{award_at, nothing, rest_at}
 use Rattle.draw.specs.Shares.{awards_of, rests_of}
 use Rattle.draw.specs.declared.pro_rata.Share.{Share}
-use Rattle.measures.proofs.Arrays.{callable, mapped}
+use Rattle.measures.proofs.Arrays.{made_at}
 use Rattle.draw.proofs.pro_rata.shares.Goals as goal
-
-pub map-requires : goal.map-requires
-map-requires c =
-    let claims = c.args.exercise.claims in (
-      omega arith,
-      (
-        omega arith,
-        (
-          omega arith,
-          callable _ _ _ (λ x q call. search rules) claims (λ k d l.
-              let small : get_or claims k d ≤ 10_000 = omega (arith, get_or_default_zero claims k d l, c.args.exercise.read.each k) in
-              search rules),
-        ),
-      ),
-    )
-
--- one claim's share
-abbrev share : ℕ → ℕ → ℕ → Share
-share demand all claim = record { award = demand * claim / all; rest = demand * claim % all }
 
 pub returns : goal.returns
 returns c =
-    let claims = c.args.exercise.claims in
-    let demand = c.args.exercise.demand in
-    let all = c.all-all.result in
-    let e : c.map.result ≡ map (share demand all) claims =
-    mapped _ (share demand all) _ (λ x y q call. search rules) claims _ 16 0 (search rules) c.map.ensures.items
+    let parts = c.args.parts.now in
+    let rests = c.args.rests.now in
+    let shares = c.from_fn.result in
+    let made = c.from_fn.ensures.items in
+    let share : ℕ → Share = λ k. record { award = get_or parts k 0; rest = get_or rests k 0 } in
+    let at : (k : ℕ) → k < 16 → get_or shares k nothing ≡ share k =
+    λ k inside. made_at _ share _ (λ k y q call. search rules) shares 0 16 k k nothing inside (omega arith) made.each
     in
-    let parted : awards_of c.map.result ≡ parts claims demand =
-    ap awards_of e ∙ map-map (λ s. s.award) (share demand all) claims ∙ ap (λ t. map (λ claim. demand * claim / t) claims) c.all-all.ensures
-    in
+    let long_parts : length parts ≡ 16 = search rules in
+    let long_rests : length rests ≡ 16 = search rules in
+    let awards_long = length-map shares (λ s. s.award) in
+    let all_rests_long = length-map shares (λ s. s.rest) in
     record {
-      parted = parted;
-      remaining = ap rests_of e ∙ map-map (λ s. s.rest) (share demand all) claims ∙ ap (λ t. map (λ claim. demand * claim % t) claims) c.all-all.ensures;
-      within = omega (arith, ap total parted, parts_within claims demand (omega arith));
+      parted =
+          ext_get_or 0 (awards_of shares) parts (omega (arith, made.long, awards_long))
+          (λ k h. let inside : k < 16 = omega (arith, made.long, awards_long) in award_at shares k (omega (arith, made.long)) ∙ ap (λ s. s.award) (at k inside));
+      remaining =
+          ext_get_or 0 (rests_of shares) rests (omega (arith, made.long, all_rests_long))
+          (λ k h. let inside : k < 16 = omega (arith, made.long, all_rests_long) in rest_at shares k (omega (arith, made.long)) ∙ ap (λ s. s.rest) (at k inside));
     }

@@ -12,7 +12,7 @@ returns c =
     let days = c.args.self.now in
     let open_day = business days.month.year days.month.number days.holidays.now in
     let all =
-    YieldsList-from_down c.rev.result (month_length days.month.year days.month.number) (search rules) (search rules)
+    YieldsList-from_down c.down_from.result (month_length days.month.year days.month.number) (search rules) (search rules)
     (search rules)
     in
     bond_found days.month.year days.month.number days.holidays.now c.nth.result
