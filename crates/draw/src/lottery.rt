@@ -102,6 +102,8 @@ impl Draw for Lottery {
 
     ghost fair = { λ s. lottery_fair s.x };
 
+    // Inlined, for a call would copy the exercise once more.
+    #[inline(always)]
     fn consult(&mut self, exercise: Exercise) -> [u32; 16] {
         let claims = exercise.claims;
         let lots = exercise.all();
